@@ -7,7 +7,7 @@ use Rattle.fit_step.proofs.Common.{Tests, State, Step, definition_in_progress, v
 use Rattle.fit_step.proofs.Common.{TakenFields, IsTaking, IsPart, state_of, width_of, PartFitsRoom, state, Made, Defines, DefinesAt, ReadsAt, IsInField, ◌==◌}
 use Rattle.fit_step.proofs.Common.{Record, RecordHeader, nothing, header_move}
 use Rattle.fit_step.specs.Places.{WantsNone}
-use Rattle.fit_step.specs.inner.Steps.{Enters, DefinesOn}
+use Rattle.fit_step.specs.inner.Steps.{Enters}
 use Rattle.fit_record.specs.Sound.{IsSound}
 use Rattle.fit_step.proofs.Preconditions.{is_defining, as_defined}
 
@@ -66,8 +66,12 @@ module _ {A : Type 0} (e : Environment A) (phase : Phase) (room : ℕ) (partial 
   definition_in d (in_definition k c) h is = (subst DefinesIn (sym is) (is_defining k c h), ap (λ (s : State A). s.partial) is)
   definition_in d f h is = absurd (let other = ap (λ (s : State A). s.in_progress) is in cc)
 
-  pub stands_define : (d : MessageDef A) → PartFitsRoom e (state phase room (Some (Define d)) partial) → DefinesAt phase d × (partial ≡ [])
-  stands_define d h = definition_in d h.part h.is_part h.is
+  same_state : {o r : Option (Record A)} → o ≡ r → state phase room r partial ≡ state phase room o partial
+  same_state is = λ i. state phase room (sym is i) partial
+
+  pub stands_define : (o : Option (Record A)) (d : MessageDef A) → o ≡ Some (Define d) → PartFitsRoom e (state phase room o partial)
+      → DefinesAt phase d × (partial ≡ [])
+  stands_define o d is h = definition_in d h.part h.is_part (same_state is ∙ h.is)
 
   message_in : (v : Values A) (f : RecordPart A) → IsPart e f → state phase room (Some (Data v)) partial ≡ state_of room f → ReadsAt e phase v partial
   message_in v (in_fields local offset t dev) (p, known, header, s, same) is =
@@ -81,19 +85,19 @@ module _ {A : Type 0} (e : Environment A) (phase : Phase) (room : ℕ) (partial 
       subst (ReadsIn e) (sym is) (p, known, reading_at (dev_layout p) t s, as_defined (dev_layout p) t s)
   message_in v f h is = absurd (let other = ap (λ (s : State A). s.in_progress) is in cc)
 
-  pub stands_values : (v : Values A) → PartFitsRoom e (state phase room (Some (Data v)) partial) → ReadsAt e phase v partial
-  stands_values v h = message_in v h.part h.is_part h.is
+  pub stands_values : (o : Option (Record A)) (v : Values A) → o ≡ Some (Data v) → PartFitsRoom e (state phase room o partial) → ReadsAt e phase v partial
+  stands_values o v is h = message_in v h.part h.is_part (same_state is ∙ h.is)
 
   nothing_in : (f : RecordPart A) → state phase room None partial ≡ state_of room f → (phase ≡ RecordHeader) × (partial ≡ [])
   nothing_in nothing is = (ap (λ (s : State A). s.phase) is, ap (λ (s : State A). s.partial) is)
   nothing_in f is = absurd (let other = ap (λ (s : State A). s.in_progress) is in cc)
 
-  pub stands_nothing : PartFitsRoom e (state phase room None partial) → (phase ≡ RecordHeader) × (partial ≡ [])
-  stands_nothing h = nothing_in h.part h.is
+  pub stands_nothing : (o : Option (Record A)) → o ≡ None → PartFitsRoom e (state phase room o partial) → (phase ≡ RecordHeader) × (partial ≡ [])
+  stands_nothing o is h = nothing_in h.part (same_state is ∙ h.is)
 
 -- ---- what the code's steps make of the state
 
-module _ {A : Type 0} (e : Environment A) (tests : Tests A) (phase after : Phase) (room left : ℕ) (partial : List ℕ) (b : ℕ) where
+module _ {A : Type 0} (e : Environment A) (tests : Tests A) (phase after : Phase) (room left : ℕ) (partial : List ℕ) (b : ℕ) (o : Option (Record A)) where
   defines_is : (d : MessageDef A) (result : Result Bool Stop) (made : Step A) → partial ≡ [] → Defines after left d result made
       → Made after left (Some (Define d)) partial result made
   defines_is d (Ok true) made none is = is ∙ ap (λ p. Ok (state after left None p, Some (Define d))) (sym none)
@@ -101,44 +105,45 @@ module _ {A : Type 0} (e : Environment A) (tests : Tests A) (phase after : Phase
   defines_is d (Err (Refused reason)) made none is = is
   defines_is d (Err NoMemory) made none is = is
 
-  pub definition_taken : (d c : MessageDef A) (result : Result Bool Stop) → partial ≡ []
+  pub definition_taken : (d c : MessageDef A) (result : Result Bool Stop) → o ≡ Some (Define d) → partial ≡ []
       → Defines after left c result (step_at e tests phase (state phase room (Some (Define d)) []) b)
-      → Made after left (Some (Define c)) partial result (step e tests (state phase room (Some (Define d)) partial) b)
+      → Made after left (Some (Define c)) partial result (step e tests (state phase room o partial) b)
   unfolding step
-  definition_taken d c result none h =
-      defines_is c result _ none (subst (λ p. Defines after left c result (step_at e tests phase (state phase room (Some (Define d)) p) b)) (sym none) h)
+  definition_taken d c result is none h =
+      let same : state phase room (Some (Define d)) [] ≡ state phase room o partial = λ i. state phase room (sym is i) (sym none i) in
+      defines_is c result _ none (subst (λ s. Defines after left c result (step_at e tests phase s b)) same h)
+
+  pub message_taken : (v w : Values A) (bytes : List ℕ) (result : Result Bool Stop) → o ≡ Some (Data v)
+      → Made after left (Some (Data w)) bytes result (step_at e tests phase (state phase room (Some (Data v)) partial) b)
+      → Made after left (Some (Data w)) bytes result (step e tests (state phase room o partial) b)
+  unfolding step
+  message_taken v w bytes result is h =
+      subst (λ q. Made after left (Some (Data w)) bytes result (step_at e tests phase (state phase room q partial) b)) (sym is) h
 
   entered_is : (r : Record A) (whole : Bool) (made : Step A) → partial ≡ [] → Enters after left (Ok (r, whole)) made
       → Made after left (Some r) partial (Ok whole) made
   entered_is r true made none is = is ∙ ap (λ p. Ok (state after left None p, Some r)) (sym none)
   entered_is r false made none is = is ∙ ap (λ p. Ok (state after left (Some r) p, None)) (sym none)
 
-  at_header : PartFitsRoom e (state phase room None partial) → header_move e tests room b ≡ step e tests (state phase room None partial) b
-  unfolding step
-  at_header stands = ap (λ k. step_at e tests k (state phase room None partial) b) (sym (stands_nothing e phase room partial stands).0)
+  refused_is : (why : Stop) (made : Step A) → Enters after left (Err why) made → Made after left o partial (Err why) made
+  refused_is (Refused reason) made is = is
+  refused_is NoMemory made is = is
 
-  pub header_taken : (r : Record A) (whole : Bool) → PartFitsRoom e (state phase room None partial)
-      → Enters after left (Ok (r, whole)) (header_move e tests room b)
-      → Made after left (Some r) partial (Ok whole) (step e tests (state phase room None partial) b)
-  header_taken r whole stands is =
-      entered_is r whole _ (stands_nothing e phase room partial stands).1 (subst (Enters after left (Ok (r, whole))) (at_header stands) is)
+  module _ (idle : o ≡ None) (stands : PartFitsRoom e (state phase room o partial)) where
+    at_header : header_move e tests room b ≡ step e tests (state phase room o partial) b
+    unfolding step
+    at_header = ap (λ k. step_at e tests k (state phase room o partial) b) (sym (stands_nothing e phase room partial o idle stands).0)
 
-  refused_is : (in_progress : Option (Record A)) (why : Stop) (made : Step A) → Enters after left (Err why) made
-      → Made after left in_progress partial (Err why) made
-  refused_is in_progress (Refused reason) made is = is
-  refused_is in_progress NoMemory made is = is
+    pub header_taken : (r : Record A) (whole : Bool) → Enters after left (Ok (r, whole)) (header_move e tests room b)
+        → Made after left (Some r) partial (Ok whole) (step e tests (state phase room o partial) b)
+    header_taken r whole is =
+        entered_is r whole _ (stands_nothing e phase room partial o idle stands).1 (subst (Enters after left (Ok (r, whole))) at_header is)
 
-  pub header_refused : (why : Stop) → PartFitsRoom e (state phase room None partial) → Enters after left (Err why) (header_move e tests room b)
-      → Made after left None partial (Err why) (step e tests (state phase room None partial) b)
-  header_refused why stands is = refused_is None why _ (subst (Enters after left (Err why)) (at_header stands) is)
+    pub header_refused : (why : Stop) → Enters after left (Err why) (header_move e tests room b)
+        → Made after left o partial (Err why) (step e tests (state phase room o partial) b)
+    header_refused why is = refused_is why _ (subst (Enters after left (Err why)) at_header is)
 
--- a byte of a definition message that isn't taken: the same whether an answer could have told that the message is whole
-pub definition_refused : {A : Type 0} (phase : Phase) (room : ℕ) (d : MessageDef A) (why : Stop) (made : Step A) → DefinesOn phase room d (Err why) made
-    → Defines phase room d (Err why) made
-definition_refused phase room d (Refused reason) made is = is
-definition_refused phase room d NoMemory made is = is
-
--- the same of another answer
+-- an answer wants no memory where another one that stops so wants none
 pub wants_none : (X Y : Type 0) (why : Stop) → WantsNone {X = X} (Err why) → WantsNone {X = Y} (Err why)
 wants_none X Y (Refused reason) h = h
 wants_none X Y NoMemory h = h
@@ -170,10 +175,12 @@ sound_of {A} {p} {o} found h = subst (λ (x : Option (Defined A)). IfSome x IsSo
 
 module _ {A : Type 0} (e : Environment A) (phase : Phase) (v : Values A) (partial : List ℕ) (place width left : ℕ) (p : Defined A)
     (found : Some p ≡ defined_at e v.local) where
-  pub fields_read : phase ≡ FieldItems place width left → ReadsAt e phase v partial → IsInField (length p.definition.fields) place width left partial
+  pub fields_read : phase ≡ FieldItems place width left → ReadsAt e phase v partial
+      → IsInField (length p.definition.fields) place width left partial × (length v.fields ≡ length p.definition.fields)
   fields_read is h =
       let (q, known, reading, many) = subst (λ k. ReadsAt e k v partial) is h in
-      subst (λ (d : Defined A). IsInField (length d.definition.fields) place width left partial) (same_defined e v.local p q known found) reading
+      subst (λ (d : Defined A). IsInField (length d.definition.fields) place width left partial × (length v.fields ≡ length d.definition.fields))
+      (same_defined e v.local p q known found) (reading, many)
 
   pub dev_read : phase ≡ DevItems place width left → IsSound p → ReadsAt e phase v partial
       → IsInField (length (dev_defs p.definition.dev)) place width left partial × (length v.dev ≡ length (dev_defs p.definition.dev))

@@ -26,6 +26,7 @@ pub mod WholeMessage
 pub mod ReadDefinitions
 pub mod SkippedRecords
 mod PlainMessages
+mod Exits
 pub mod Splits
 pub mod RecordFronts
 pub mod RecordsInProgress

@@ -140,12 +140,5 @@ module _ {A : Type 0} (now old env : Environment A) (before first after : Positi
     pub tells_in_place : (whole : Bool) → answer ≡ Ok whole → whole ≡ true → ReadsInPlace now before idle env after in_progress piece used (Ok true)
     tells_in_place whole is all = told_as (Ok true) (is ∙ ap Ok all)
 
-    pub tells_whole : (whole : Bool) → answer ≡ Ok whole → whole ≡ true → (out left : Option (Record A)) → out ≡ in_progress → left ≡ None
-        → Reads now before idle env after left piece used (Ok out)
-    tells_whole whole is all out left taken none =
-        let (r, stands, told) = told_as (Ok true) (is ∙ ap Ok all) in
-        subst (λ (o : Option (Record A)). Reads now before idle env after left piece used (Ok o)) (sym (taken ∙ stands))
-        (subst (λ (o : Option (Record A)). Reads now before idle env after o piece used (Ok (Some r))) (sym none) told)
-
     pub tells_stop : (stop : Stop) → answer ≡ Err stop → Reads now before idle env after in_progress piece used (Err stop)
     tells_stop stop is = told_as (Err stop) is

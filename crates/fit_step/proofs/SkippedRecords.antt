@@ -51,6 +51,11 @@ module _ {A : Type 0} (e : Environment A) (b : ℕ) (rest : List ℕ) (are : IsB
       go None known none = absurd (omega (arith, some, none))
       go (Some p) known long = at p known (p.definition.global == 206) refl long
 
+-- by what is defined
+pub size_at : {A : Type 0} (e : Environment A) (local : ℕ) (o : Option (Defined A)) → o ≡ defined_at e local
+    → option_map_or (λ (p : Defined A). cond (p.definition.global == 206) 0 (1 + message_size p)) o 0 ≡ size_to_skip e local
+size_at {A} e local o is = ap (λ (q : Option (Defined A)). option_map_or (λ p. cond (p.definition.global == 206) 0 (1 + message_size p)) q 0) is
+
 -- ---- one record more
 
 pub one_more : {A : Type 0} (e f after : Environment A) (bytes : List ℕ) (used size count : ℕ) → used + size ≤ length bytes
@@ -104,8 +109,7 @@ sizes_after {A} e d sizes size long low told is k less =
     elim (eqb_tells k d.local) [
       | inl same ↦ get_or-set_at sizes d.local k size 0 same.1 (omega (arith, long, low)) ∙ is ∙ ap (size_to_skip (learn e (Define d))) (sym same.1)
       | inr other ↦ get_or-set_other sizes d.local k size 0 other.1 ∙ told k less
-          ∙ sym (ap (λ (o : Option (Defined A)). option_map_or (λ p. cond (p.definition.global == 206) 0 (1 + message_size p)) o 0)
-          (get_or-set_other e.places d.local k (Some (defined_by e d)) None other.1))
+          ∙ size_at (learn e (Define d)) k (defined_at e k) (sym (get_or-set_other e.places d.local k (Some (defined_by e d)) None other.1))
     ]
 
 -- ---- in a data section

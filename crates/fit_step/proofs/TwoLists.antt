@@ -1,6 +1,6 @@
 -- The search for the next field that has bytes, and a field or a number more.
 use Rattle.fit_step.proofs.Common.{◌≡◌, inl, inr, ℕ, zero, suc, ◌+◌, ◌<◌, List, [], ◌∷◌, ◌++◌, take, get_or, set, refl, ap, ◌∙◌, arith, Some}
-use Rattle.fit_step.proofs.Common.{None, Ok, Err, Option, Result, OnOk, OnErr, Items, cond-true, eq-eqb, cases_Bool, Data, Values, FieldItems}
+use Rattle.fit_step.proofs.Common.{None, Option, Items, cond-true, eq-eqb, cases_Bool, Data, Values, FieldItems}
 use Rattle.fit_step.proofs.Common.{DevItems, NextState, start, reading, no_items, add_number, begin_dev, begin_fields, next_with_bytes, map-append, drop, map}
 use Rattle.fit_step.proofs.Common.{◌==◌, ◌≤◌, cond-false, ne_eqb, item_width, take_more, slice_get, slice_get_within, get_or_from_slice_get}
 use Rattle.fit_record.proofs.FirstOfNumber.{dropped}
@@ -27,14 +27,6 @@ one_more_field slots k f at =
     ∙ map-append no_items (take k slots) (f ∷ [])
 
 -- ---- a number more in a field
-
-pub on_ok : {T E : Type 0} {P Q : Type 0} (r : Result T E) → (P → Q) → OnOk r P → OnOk r Q
-on_ok (Ok x) f p = f p
-on_ok (Err x) f p = tt
-
-pub on_err : {T E : Type 0} {P Q : Type 0} (r : Result T E) → (P → Q) → OnErr r P → OnErr r Q
-on_err (Ok x) f p = tt
-on_err (Err x) f p = f p
 
 set_at : {A : Type 0} (items : List (Items A)) (k n : ℕ) (l : Items A) → l ≡ get_or items k l
     → set items k (record { width = l.width; bits = l.bits ++ n ∷ [] }) ≡ add_number k items n

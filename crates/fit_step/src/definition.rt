@@ -1,12 +1,12 @@
 //! The bytes of a definition message after its record header, one by one (FIT protocol, "Definition Message").
 ghost use Rattle.std.specs.Prelude.{◌≡◌, ◌<◌, OnErr, IsSome, Some, None, Ok, []};
 ghost use Rattle.fit_record.specs.declared.message.Record.TheVariants.{Define};
-ghost use Rattle.fit_record.specs.Records.{DefinitionFits};
 ghost use Rattle.fit_step.specs.declared.phase.DefinitionPhase.TheVariants.{Reserved, Architecture, GlobalFirst, GlobalSecond, FieldCount, FieldNumber, FieldCode, DevNumber, DevIndex};
 ghost use Rattle.fit_step.specs.Machine.{Tests, definition_move};
 ghost use Rattle.fit_step.specs.Places.{WantsNone};
-ghost use Rattle.fit_step.specs.inner.Steps.{state, Defines, DefinesOn};
+ghost use Rattle.fit_step.specs.inner.Steps.{state, Defines};
 
+use crate::read_definition::global_of;
 use crate::{DefinitionPhase, Phase, Stop};
 use fit_base::Order;
 use fit_frame::Reason;
@@ -30,16 +30,16 @@ pub(crate) fn at_reserved<A: Allocator>(
     *phase = Phase::Definition(DefinitionPhase::Architecture);
 }
 
-/// The architecture.
+/// The architecture. No definition message is whole with it.
 #[tactic(auto, unfolding(crate::specs::Machine::definition_move))]
 pub(crate) fn at_architecture<A: Allocator>(
     phase: &mut Phase,
     room: &mut u32,
     definition: &mut MessageDef<A>,
     byte: u8,
-) -> Result<(), Stop>
+) -> Result<bool, Stop>
     requires { 0 < room.old }
-    ensures made { (tests : Tests A) → DefinesOn phase.new room.new definition.new result
+    ensures made { (tests : Tests A) → Defines phase.new room.new definition.new result
         (definition_move tests Architecture room.old definition.old byte) }
     ensures err { OnErr result ((phase.new ≡ phase.old) × (room.new ≡ room.old)
         × (definition.new ≡ definition.old)) }
@@ -52,7 +52,7 @@ pub(crate) fn at_architecture<A: Allocator>(
     };
     *room -= 1;
     *phase = Phase::Definition(DefinitionPhase::GlobalFirst);
-    Ok(())
+    Ok(false)
 }
 
 /// The first byte of the global message number.
@@ -84,10 +84,7 @@ pub(crate) fn at_global_second<A: Allocator>(
     ensures { (tests : Tests A) → definition_move tests (GlobalSecond first) room.old definition.old
         byte ≡ Ok (state phase.new room.new (Some (Define definition.new)) [], None) }
 {
-    definition.global = match definition.order {
-        Order::Little => u16::from(first) + 256 * u16::from(byte),
-        Order::Big => u16::from(byte) + 256 * u16::from(first),
-    };
+    definition.global = global_of(definition.order, first, byte);
     *room -= 1;
     *phase = Phase::Definition(DefinitionPhase::FieldCount);
 }

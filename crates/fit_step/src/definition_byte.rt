@@ -37,10 +37,7 @@ pub(crate) fn definition_byte<A: Allocator>(
             at_reserved(phase, room, definition, byte);
             Ok(false)
         }
-        DefinitionPhase::Architecture => {
-            at_architecture(phase, room, definition, byte)?;
-            Ok(false)
-        }
+        DefinitionPhase::Architecture => at_architecture(phase, room, definition, byte),
         DefinitionPhase::GlobalFirst => {
             at_global_first(phase, room, definition, byte);
             Ok(false)
@@ -55,8 +52,7 @@ pub(crate) fn definition_byte<A: Allocator>(
             Ok(false)
         }
         DefinitionPhase::FieldSize { left, number } => {
-            at_field_size(env, phase, room, definition, left, number, byte)?;
-            Ok(false)
+            at_field_size(env, phase, room, definition, left, number, byte)
         }
         DefinitionPhase::FieldCode { left, number, size } => {
             at_field_code(phase, room, definition, left, number, size, byte)
@@ -67,8 +63,7 @@ pub(crate) fn definition_byte<A: Allocator>(
             Ok(false)
         }
         DefinitionPhase::DevSize { left, number } => {
-            at_dev_size(env, phase, room, definition, left, number, byte)?;
-            Ok(false)
+            at_dev_size(env, phase, room, definition, left, number, byte)
         }
         DefinitionPhase::DevIndex { left, number, size } => {
             at_dev_index(phase, room, definition, left, number, size, byte)

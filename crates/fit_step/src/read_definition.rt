@@ -34,7 +34,7 @@ fn order_of(byte: u8) -> Option<Order>
 }
 
 /// The number of two bytes.
-fn global_of(order: Order, first: u8, second: u8) -> u16
+pub(crate) fn global_of(order: Order, first: u8, second: u8) -> u16
     ensures { result ≡ number order (first ∷ second ∷ []) }
 {
     match order {

@@ -1,5 +1,5 @@
 //! Definition messages that say again what is defined already.
-ghost use Rattle.std.specs.Prelude.{◌≡◌, ◌*◌, ◌∷◌, [], true, flat_map, length};
+ghost use Rattle.std.specs.Prelude.{◌≡◌, ◌*◌, true, flat_map, length};
 ghost use Rattle.fit_record.specs.Records.{field_bytes};
 ghost use Rattle.fit_step.specs.inner.Definitions.{SaysNothingNew};
 ghost use Rattle.fit_step.specs.inner.Repeated.{BeginsAs};

@@ -1,10 +1,10 @@
 //! The bytes of a definition message on which it depends whether records can still fill what is left of the data section.
-ghost use Rattle.std.specs.Prelude.{◌≡◌, ◌<◌, OnErr, IsSome};
+ghost use Rattle.std.specs.Prelude.{◌≡◌, ◌<◌, OnErr};
 ghost use Rattle.fit_record.specs.Records.{DefinitionFits};
 ghost use Rattle.fit_step.specs.declared.phase.DefinitionPhase.TheVariants.{FieldSize, DevCount, DevSize};
 ghost use Rattle.fit_step.specs.Machine.{definition_move};
 ghost use Rattle.fit_step.specs.Places.{WantsNone};
-ghost use Rattle.fit_step.specs.inner.Steps.{Defines, DefinesOn};
+ghost use Rattle.fit_step.specs.inner.Steps.{Defines};
 ghost use Rattle.fit_step.specs.Tests.{tests_of, entries_complete};
 
 use crate::{DefinitionPhase, Phase, Stop};
@@ -31,7 +31,7 @@ fn entries_complete<A: Allocator>(
     }
 }
 
-/// The size of a field.
+/// The size of a field. No definition message is whole with it.
 #[tactic(auto, unfolding(crate::specs::Machine::definition_move))]
 pub(crate) fn at_field_size<A: Allocator>(
     env: &Env<A>,
@@ -41,11 +41,11 @@ pub(crate) fn at_field_size<A: Allocator>(
     left: u8,
     number: u8,
     byte: u8,
-) -> Result<(), Stop>
+) -> Result<bool, Stop>
     requires room { 0 < room.old }
     requires left { 0 < left }
     requires fits { DefinitionFits definition.now }
-    ensures made { DefinesOn phase.new room.new definition.now result
+    ensures made { Defines phase.new room.new definition.now result
         (definition_move (tests_of env.now) (FieldSize left number) room.old definition.now byte) }
     ensures err { OnErr result ((phase.new ≡ phase.old) × (room.new ≡ room.old)) }
     ensures free { WantsNone result }
@@ -61,7 +61,7 @@ pub(crate) fn at_field_size<A: Allocator>(
         number,
         size: byte,
     });
-    Ok(())
+    Ok(false)
 }
 
 /// The number of developer fields. Whether the definition message is whole.
@@ -101,7 +101,7 @@ pub(crate) fn at_dev_count<A: Allocator>(
     Ok(true)
 }
 
-/// The size of a developer field.
+/// The size of a developer field. No definition message is whole with it.
 #[tactic(auto, unfolding(crate::specs::Machine::definition_move))]
 pub(crate) fn at_dev_size<A: Allocator>(
     env: &Env<A>,
@@ -111,11 +111,11 @@ pub(crate) fn at_dev_size<A: Allocator>(
     left: u8,
     number: u8,
     byte: u8,
-) -> Result<(), Stop>
+) -> Result<bool, Stop>
     requires room { 0 < room.old }
     requires left { 0 < left }
     requires fits { DefinitionFits definition.now }
-    ensures made { DefinesOn phase.new room.new definition.now result
+    ensures made { Defines phase.new room.new definition.now result
         (definition_move (tests_of env.now) (DevSize left number) room.old definition.now byte) }
     ensures err { OnErr result ((phase.new ≡ phase.old) × (room.new ≡ room.old)) }
     ensures free { WantsNone result }
@@ -131,5 +131,5 @@ pub(crate) fn at_dev_size<A: Allocator>(
         number,
         size: byte,
     });
-    Ok(())
+    Ok(false)
 }

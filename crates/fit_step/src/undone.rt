@@ -5,7 +5,6 @@ ghost use Rattle.fit_record.specs.declared.definition.FieldDef.{FieldDef};
 ghost use Rattle.fit_record.specs.declared.definition.DevDef.{DevDef};
 ghost use Rattle.fit_record.specs.declared.definition.MessageDef.{MessageDef};
 ghost use Rattle.fit_record.specs.declared.message.Record.{Record};
-ghost use Rattle.fit_record.specs.declared.message.Record.TheVariants.{Define, Values as Data};
 ghost use Rattle.fit_record.specs.declared.message.Values.{Values};
 ghost use Rattle.fit_record.specs.Environment.{Environment, dev_defs};
 ghost use Rattle.fit_step.specs.Machine.{State, add_number, step};

@@ -46,12 +46,6 @@ Defines phase room d (Ok false) made = made ≡ Ok (state phase room (Some (Defi
 Defines phase room d (Err (Refused reason)) made = made ≡ Err reason
 Defines phase room d (Err NoMemory) made = IsOk made
 
--- the same of a step that never ends the definition message
-abbrev pub DefinesOn : {A : Type 0} → Phase → ℕ → MessageDef A → Result (Unit {0}) Stop → Step A → Type 0
-DefinesOn phase room d (Ok _) made = made ≡ Ok (state phase room (Some (Define d)) [], None)
-DefinesOn phase room d (Err (Refused reason)) made = made ≡ Err reason
-DefinesOn phase room d (Err NoMemory) made = IsOk made
-
 -- entries are to come where the phase says so, and developer fields are read only where there are any
 abbrev pub IsDefining : {A : Type 0} → DefinitionPhase → MessageDef A → Type 0
 IsDefining (FieldNumber left) d = DefinitionFits d × (0 < left)

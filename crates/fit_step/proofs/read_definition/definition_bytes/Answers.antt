@@ -3,29 +3,26 @@ use Rattle.fit_step.proofs.ReadDefinitions.{byte_at, count_at}
 use Rattle.std.proofs.lemmas.Grind.{common_steps}
 use Rattle.fit_step.proofs.read_definition.definition_bytes.Goals as goal
 
-pub returns-then-has_reserved_bit-clause-found : goal.returns-then-has_reserved_bit-clause-found
-returns-then-has_reserved_bit-clause-found c = grind (arith, common_steps)
+pub returns-in_err-header : goal.returns-in_err-header
+returns-in_err-header c = rw c.from_residual.ensures (record {
+  begins = tt;
+  found = λ f entries begins. absurd (omega (arith, begins.within, c.in_err-header.ensures.cases));
+})
 
-pub bounds-five-1 : goal.bounds-five-1
-bounds-five-1 c = omega (arith, c.split_at.ensures.front_len)
+pub returns-then-has_reserved_bit : goal.returns-then-has_reserved_bit
+returns-then-has_reserved_bit c = record { begins = tt; found = grind (arith, common_steps) }
 
-pub bounds-five-4 : goal.bounds-five-4
-bounds-five-4 c = omega (arith, c.split_at.ensures.front_len)
-
-pub overflow_cast-size : goal.overflow_cast-size
-overflow_cast-size c = grind (arith, common_steps)
-
-pub overflow_mul-size : goal.overflow_mul-size
-overflow_mul-size c = grind (arith, common_steps)
-
-pub returns-then-after-size-clause-found : goal.returns-then-after-size-clause-found
-returns-then-after-size-clause-found c = λ f entries begins.
-    let first = c.in_ok-header.ensures.cases.0 in
-    let count = count_at f entries c.args.piece.now c.in_ok-header.rest.now c.split_at.result.0.now _ begins first c.split_at.ensures.front in
-    absurd (omega (arith, c.if-after-size.true, count, begins.long, begins.within, c.split_at.ensures.back_len, c.in_ok-header.ensures.cases.1))
+pub returns-then-rest-lt5 : goal.returns-then-rest-lt5
+returns-then-rest-lt5 c = record {
+  begins = tt;
+  found = λ f entries begins. absurd (omega (arith, begins.within, c.if-rest-lt5.true, c.in_ok-header.ensures.cases.1));
+}
 
 pub bounds-five-0 : goal.bounds-five-0
 bounds-five-0 c = omega (arith, c.split_at.ensures.front_len)
+
+pub bounds-five-1 : goal.bounds-five-1
+bounds-five-1 c = omega (arith, c.split_at.ensures.front_len)
 
 pub bounds-five-2 : goal.bounds-five-2
 bounds-five-2 c = omega (arith, c.split_at.ensures.front_len)
@@ -33,35 +30,35 @@ bounds-five-2 c = omega (arith, c.split_at.ensures.front_len)
 pub bounds-five-3 : goal.bounds-five-3
 bounds-five-3 c = omega (arith, c.split_at.ensures.front_len)
 
-pub returns-then-has_reserved_bit-clause-begins : goal.returns-then-has_reserved_bit-clause-begins
-returns-then-has_reserved_bit-clause-begins c = tt
+pub bounds-five-4 : goal.bounds-five-4
+bounds-five-4 c = omega (arith, c.split_at.ensures.front_len)
 
-pub returns-then-rest-lt5-clause-begins : goal.returns-then-rest-lt5-clause-begins
-returns-then-rest-lt5-clause-begins c = tt
+pub returns-in_err-order : goal.returns-in_err-order
+returns-in_err-order c = rw c.from_residual-in_err-order.ensures (record {
+  begins = tt;
+  found = λ f entries begins.
+      let first = c.in_ok-header.ensures.cases.0 in
+      let named = byte_at f entries c.args.piece.now c.in_ok-header.rest.now c.split_at.result.0.now _ 1 begins first c.split_at.ensures.front (lit< tt) in
+      absurd (c.in_err-order.ensures.none refl f.order (sym named));
+})
 
-pub returns-then-after-size-clause-begins : goal.returns-then-after-size-clause-begins
-returns-then-after-size-clause-begins c = tt
+pub overflow_cast-size : goal.overflow_cast-size
+overflow_cast-size c = grind (arith, common_steps)
 
-pub returns-in_err-header-clause-begins : goal.returns-in_err-header-clause-begins
-returns-in_err-header-clause-begins c = rw c.from_residual.ensures tt
+pub overflow_mul-size : goal.overflow_mul-size
+overflow_mul-size c = grind (arith, common_steps)
 
-pub returns-in_err-order-clause-begins : goal.returns-in_err-order-clause-begins
-returns-in_err-order-clause-begins c = rw c.from_residual-in_err-order.ensures tt
+pub returns-then-after-size : goal.returns-then-after-size
+returns-then-after-size c = record {
+  begins = tt;
+  found = λ f entries begins.
+      let first = c.in_ok-header.ensures.cases.0 in
+      let count = count_at f entries c.args.piece.now c.in_ok-header.rest.now c.split_at.result.0.now _ begins first c.split_at.ensures.front in
+      absurd (omega (arith, c.if-after-size.true, count, begins.long, begins.within, c.split_at.ensures.back_len, c.in_ok-header.ensures.cases.1));
+}
 
 pub returns-clause-found : goal.returns-clause-found
 returns-clause-found c = λ f entries begins.
     let first = c.in_ok-header.ensures.cases.0 in
     let count = count_at f entries c.args.piece.now c.in_ok-header.rest.now c.split_at.result.0.now _ begins first c.split_at.ensures.front in
     let is : length c.split_at-2.result.0.now ≡ length entries = omega (arith, c.split_at-2.ensures.front_len, count, begins.long) in is
-
-pub returns-in_err-header-clause-found : goal.returns-in_err-header-clause-found
-returns-in_err-header-clause-found c = λ f entries begins. absurd (omega (arith, begins.within, c.in_err-header.ensures.cases))
-
-pub returns-then-rest-lt5-clause-found : goal.returns-then-rest-lt5-clause-found
-returns-then-rest-lt5-clause-found c = λ f entries begins. absurd (omega (arith, begins.within, c.if-rest-lt5.true, c.in_ok-header.ensures.cases.1))
-
-pub returns-in_err-order-clause-found : goal.returns-in_err-order-clause-found
-returns-in_err-order-clause-found c = λ f entries begins.
-    let first = c.in_ok-header.ensures.cases.0 in
-    let named = byte_at f entries c.args.piece.now c.in_ok-header.rest.now c.split_at.result.0.now _ 1 begins first c.split_at.ensures.front (lit< tt) in
-    absurd (c.in_err-order.ensures.none refl f.order (sym named))

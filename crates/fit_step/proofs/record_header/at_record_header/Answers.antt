@@ -10,51 +10,41 @@ at_message-requires g c = assumption
 pub overflow_sub-room : goal.overflow_sub-room
 overflow_sub-room g c = omega (arith, c.requires.room)
 
-pub returns-then-not-is_definition-clause-made : goal.returns-then-not-is_definition-clause-made
+pub returns-then-has_reserved_bit : goal.returns-then-has_reserved_bit
 unfolding header_move
-returns-then-not-is_definition-clause-made g c =
+returns-then-has_reserved_bit g c =
+    let reserved : has_reserved_bit c.args.byte ≡ true = sym c.has_reserved_bit.ensures ∙ c.if-has_reserved_bit.true in
+    record { made = rw reserved refl; free = λ _. tt }
+
+pub returns-then-not-is_definition : goal.returns-then-not-is_definition
+unfolding header_move
+returns-then-not-is_definition g c =
     let plain : has_reserved_bit c.args.byte ≡ false = sym c.has_reserved_bit.ensures ∙ c.if-has_reserved_bit.false in
     let message : is_definition c.args.byte ≡ false = sym c.is_definition.ensures ∙ c.if-not-is_definition.true in
-    rw (plain, message) c.at_message.ensures.made
+    record {
+      made = rw (plain, message) c.at_message.ensures.made;
+      free = λ none. elim none [
+        | inl definition ↦ absurd (both_ways (is_definition c.args.byte) message definition)
+        | inr heads ↦ c.at_message.ensures.free heads.1
+      ];
+    }
 
-pub returns-then-has_reserved_bit-clause-free : goal.returns-then-has_reserved_bit-clause-free
-returns-then-has_reserved_bit-clause-free g c = λ _. tt
-
-pub returns-then-room-least_definition-clause-free : goal.returns-then-room-least_definition-clause-free
-returns-then-room-least_definition-clause-free g c = λ _. tt
-
-pub returns-clause-free : goal.returns-clause-free
-returns-clause-free g c = λ _. tt
-
-pub returns-then-has_reserved_bit-clause-made : goal.returns-then-has_reserved_bit-clause-made
+pub returns-then-room-least_definition : goal.returns-then-room-least_definition
 unfolding header_move
-returns-then-has_reserved_bit-clause-made g c =
-    let reserved : has_reserved_bit c.args.byte ≡ true = sym c.has_reserved_bit.ensures ∙ c.if-has_reserved_bit.true in rw reserved refl
-
-pub returns-then-not-is_definition-clause-free : goal.returns-then-not-is_definition-clause-free
-returns-then-not-is_definition-clause-free g c = λ none.
-    let message : is_definition c.args.byte ≡ false = sym c.is_definition.ensures ∙ c.if-not-is_definition.true in
-    elim none [
-      | inl definition ↦ absurd (both_ways (is_definition c.args.byte) message definition)
-      | inr heads ↦ c.at_message.ensures.free heads.1
-    ]
-
-pub returns-then-room-least_definition-clause-made : goal.returns-then-room-least_definition-clause-made
-unfolding header_move
-returns-then-room-least_definition-clause-made g c =
+returns-then-room-least_definition g c =
     let room = c.args.room.now in
     let plain : has_reserved_bit c.args.byte ≡ false = sym c.has_reserved_bit.ensures ∙ c.if-has_reserved_bit.false in
     let definition : is_definition c.args.byte ≡ true = sym c.is_definition.ensures ∙ c.if-not-is_definition.false in
     let short : nat_lt room (least_definition c.args.byte) ≡ true =
     lt-ltb _ _ (subst (λ n. room < n) c.least_definition.ensures c.if-room-least_definition.true) in
-    rw (plain, definition, short) refl
+    record { made = rw (plain, definition, short) refl; free = λ _. tt }
 
-pub returns-clause-made : goal.returns-clause-made
+pub returns : goal.returns
 unfolding header_move
-returns-clause-made g c =
+returns g c =
     let room = c.args.room.now in
     let plain : has_reserved_bit c.args.byte ≡ false = sym c.has_reserved_bit.ensures ∙ c.if-has_reserved_bit.false in
     let definition : is_definition c.args.byte ≡ true = sym c.is_definition.ensures ∙ c.if-not-is_definition.false in
     let long : nat_lt room (least_definition c.args.byte) ≡ false =
     le-ltb _ _ (subst (λ n. n ≤ room) c.least_definition.ensures c.if-room-least_definition.false) in
-    rw (plain, definition, long, c.new_definition.ensures) refl
+    record { made = rw (plain, definition, long, c.new_definition.ensures) refl; free = λ _. tt }

@@ -1,9 +1,9 @@
 use Rattle.fit_step.proofs.Common.{◌+◌, ap, ◌∙◌, subst, sym, refl, length, take, flat_map, field_bytes, Define, DefinitionFits, IsRecord, arith}
+use Rattle.fit_step.proofs.Exits.{no_result, on_error}
 use Rattle.fit_step.proofs.ReadBytes.{whole_at_front}
 use Rattle.fit_step.proofs.ReadDefinitions.{definition_stands, read_fits, read_is_record}
 use Rattle.fit_step.proofs.SkippedRecords.{plain_stands}
 use Rattle.fit_step.specs.inner.Definitions.{definition_of}
-use Rattle.std.proofs.lemmas.Result.{IfOk-from_err, MatchResult-from_err}
 use Rattle.fit_step.proofs.record_reader.read_whole_definition.Goals as goal
 
 pub learn_copy-requires : goal.learn_copy-requires
@@ -26,8 +26,14 @@ learn_copy-requires g c =
       ),
     )
 
-pub returns-clause-reads : goal.returns-clause-reads
-returns-clause-reads g c =
+pub overflow_cast-position : goal.overflow_cast-position
+overflow_cast-position g c = omega (arith, c.in-Some.ensures.left)
+
+pub overflow_sub-position : goal.overflow_sub-position
+overflow_sub-position g c = omega (arith, c.in-Some.ensures.left)
+
+pub returns : goal.returns
+returns g c =
     let e = c.args.env.now in
     let p = c.args.position.now in
     let piece = c.args.piece.now in
@@ -35,97 +41,54 @@ returns-clause-reads g c =
     let told = found.ensures in
     let size = 6 + length found.entries.now in
     let definition = c.with_fields-definition.result in
-    whole_at_front e c.learn_copy.new.env p c.args.in_progress.now piece (Define definition) size told.idle
-    (plain_stands e p.room piece (Define definition) size (omega arith) told.begins.within told.left
-    (subst (λ d. IsRecord e (Define d) (take size piece)) (sym c.with_fields-definition.ensures)
-    (read_is_record found.front found.entries.now piece told.begins c.in_ok-read_fields.field-0 c.in_ok-read_fields.ensures e)))
-    c.in_ok-learn_copy.ensures.ok
+    let is = read_is_record found.front found.entries.now piece told.begins c.in_ok-read_fields.field-0 c.in_ok-read_fields.ensures e in
+    record {
+      reads = whole_at_front e c.learn_copy.new.env p c.args.in_progress.now piece (Define definition) size told.idle
+          (plain_stands e p.room piece (Define definition) size (omega arith) told.begins.within told.left
+          (subst (λ d. IsRecord e (Define d) (take size piece)) (sym c.with_fields-definition.ensures) is))
+          c.in_ok-learn_copy.ensures.ok;
+      definition = (definition_of found.front c.in_ok-read_fields.field-0, told.begins.within, is, refl);
+      left = omega (arith, told.left);
+      none = tt;
+      err = tt;
+      whole = λ idle size has large.
+          let (f, entries, begins, all) = definition_stands e piece size has in
+          ap (λ n. 6 + n) (told.whole idle f entries begins (omega (arith, large, all))) ∙ all;
+    }
 
-pub returns-clause-definition : goal.returns-clause-definition
-returns-clause-definition g c =
-    let found = c.in-Some in
-    let begins = found.ensures.begins in (
-      definition_of found.front c.in_ok-read_fields.field-0,
-      begins.within,
-      read_is_record found.front found.entries.now c.args.piece.now begins c.in_ok-read_fields.field-0 c.in_ok-read_fields.ensures c.args.env.now,
-      refl,
-    )
+pub returns-in_default : goal.returns-in_default
+returns-in_default g c = record {
+  reads = tt;
+  definition = tt;
+  left = tt;
+  none = (refl, refl);
+  err = tt;
+  whole = λ idle size has large.
+      let (f, entries, begins, all) = definition_stands c.args.env.now c.args.piece.now size has in
+      absurd (c.in_default.ensures.whole idle f entries begins (omega (arith, large, all)));
+}
 
-pub returns-in_default-clause-whole : goal.returns-in_default-clause-whole
-returns-in_default-clause-whole g c = λ idle size has large.
-    let (f, entries, begins, all) = definition_stands c.args.env.now c.args.piece.now size has in
-    absurd (c.in_default.ensures.whole idle f entries begins (omega (arith, large, all)))
+pub returns-in_err-read_fields : goal.returns-in_err-read_fields
+returns-in_err-read_fields g c =
+    let holds = no_result c.from_residual.result c.from_residual.ensures.0 in
+    record {
+      reads = holds _;
+      definition = holds _;
+      left = holds _;
+      none = holds _;
+      err = on_error c.from_residual.result c.from_residual.ensures.0 (refl, refl);
+      whole = λ idle size has large. holds _;
+    }
 
-pub returns-clause-whole : goal.returns-clause-whole
-returns-clause-whole g c = λ idle size has large.
-    let (f, entries, begins, all) = definition_stands c.args.env.now c.args.piece.now size has in
-    ap (λ n. 6 + n) (c.in-Some.ensures.whole idle f entries begins (omega (arith, large, all))) ∙ all
-
-pub overflow_cast-position : goal.overflow_cast-position
-overflow_cast-position g c = omega (arith, c.in-Some.ensures.left)
-
-pub overflow_sub-position : goal.overflow_sub-position
-overflow_sub-position g c = omega (arith, c.in-Some.ensures.left)
-
-pub returns-clause-left : goal.returns-clause-left
-returns-clause-left g c = omega (arith, c.in-Some.ensures.left)
-
-pub returns-clause-none : goal.returns-clause-none
-returns-clause-none g c = tt
-
-pub returns-clause-err : goal.returns-clause-err
-returns-clause-err g c = tt
-
-pub returns-in_default-clause-reads : goal.returns-in_default-clause-reads
-returns-in_default-clause-reads g c = tt
-
-pub returns-in_default-clause-definition : goal.returns-in_default-clause-definition
-returns-in_default-clause-definition g c = tt
-
-pub returns-in_default-clause-left : goal.returns-in_default-clause-left
-returns-in_default-clause-left g c = tt
-
-pub returns-in_default-clause-err : goal.returns-in_default-clause-err
-returns-in_default-clause-err g c = tt
-
-pub returns-in_default-clause-none : goal.returns-in_default-clause-none
-returns-in_default-clause-none g c = (refl, refl)
-
-pub returns-in_err-read_fields-clause-reads : goal.returns-in_err-read_fields-clause-reads
-returns-in_err-read_fields-clause-reads g c = IfOk-from_err c.from_residual.result _ c.from_residual.ensures.0
-
-pub returns-in_err-read_fields-clause-definition : goal.returns-in_err-read_fields-clause-definition
-returns-in_err-read_fields-clause-definition g c = IfOk-from_err c.from_residual.result _ c.from_residual.ensures.0
-
-pub returns-in_err-read_fields-clause-left : goal.returns-in_err-read_fields-clause-left
-returns-in_err-read_fields-clause-left g c = IfOk-from_err c.from_residual.result _ c.from_residual.ensures.0
-
-pub returns-in_err-read_fields-clause-none : goal.returns-in_err-read_fields-clause-none
-returns-in_err-read_fields-clause-none g c = IfOk-from_err c.from_residual.result _ c.from_residual.ensures.0
-
-pub returns-in_err-read_fields-clause-whole : goal.returns-in_err-read_fields-clause-whole
-returns-in_err-read_fields-clause-whole g c = λ idle size has large. IfOk-from_err c.from_residual.result _ c.from_residual.ensures.0
-
-pub returns-in_err-read_fields-clause-err : goal.returns-in_err-read_fields-clause-err
-returns-in_err-read_fields-clause-err g c = MatchResult-from_err c.from_residual.result _ _ c.from_residual.ensures.0 (λ _. (refl, refl))
-
-pub returns-in_err-learn_copy-clause-reads : goal.returns-in_err-learn_copy-clause-reads
-returns-in_err-learn_copy-clause-reads g c = IfOk-from_err c.from_residual-in_err-learn_copy.result _ c.from_residual-in_err-learn_copy.ensures.0
-
-pub returns-in_err-learn_copy-clause-definition : goal.returns-in_err-learn_copy-clause-definition
-returns-in_err-learn_copy-clause-definition g c = IfOk-from_err c.from_residual-in_err-learn_copy.result _ c.from_residual-in_err-learn_copy.ensures.0
-
-pub returns-in_err-learn_copy-clause-left : goal.returns-in_err-learn_copy-clause-left
-returns-in_err-learn_copy-clause-left g c = IfOk-from_err c.from_residual-in_err-learn_copy.result _ c.from_residual-in_err-learn_copy.ensures.0
-
-pub returns-in_err-learn_copy-clause-none : goal.returns-in_err-learn_copy-clause-none
-returns-in_err-learn_copy-clause-none g c = IfOk-from_err c.from_residual-in_err-learn_copy.result _ c.from_residual-in_err-learn_copy.ensures.0
-
-pub returns-in_err-learn_copy-clause-whole : goal.returns-in_err-learn_copy-clause-whole
-returns-in_err-learn_copy-clause-whole g c = λ idle size has large.
-    IfOk-from_err c.from_residual-in_err-learn_copy.result _ c.from_residual-in_err-learn_copy.ensures.0
-
-pub returns-in_err-learn_copy-clause-err : goal.returns-in_err-learn_copy-clause-err
-returns-in_err-learn_copy-clause-err g c =
-    MatchResult-from_err c.from_residual-in_err-learn_copy.result _ _ c.from_residual-in_err-learn_copy.ensures.0
-    (λ _. (c.in_err-learn_copy.ensures.err, refl))
+pub returns-in_err-learn_copy : goal.returns-in_err-learn_copy
+returns-in_err-learn_copy g c =
+    let exit = c.from_residual-in_err-learn_copy in
+    let holds = no_result exit.result exit.ensures.0 in
+    record {
+      reads = holds _;
+      definition = holds _;
+      left = holds _;
+      none = holds _;
+      err = on_error exit.result exit.ensures.0 (c.in_err-learn_copy.ensures.err, refl);
+      whole = λ idle size has large. holds _;
+    }

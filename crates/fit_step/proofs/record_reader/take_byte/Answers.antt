@@ -13,16 +13,14 @@ take_step-requires g c = (
   subst (λ p. StandsWithRoom c.args.env.now (state_at p c.args.in_progress.now)) (sym (c.take_inside.ensures.same c.if-take_inside.false)) c.requires,
 )
 
-pub returns-clause-made : goal.returns-clause-made
-returns-clause-made g c =
+pub returns : goal.returns
+returns g c =
     let e = c.args.env.now in
     let after = c.take_step.new in
-    subst (λ p. TakesByte e after.env after.position after.in_progress c.args.byte c.take_step.result
-    (step e (tests_of e) (state_at p c.args.in_progress.now) c.args.byte))
-    (c.take_inside.ensures.same c.if-take_inside.false) c.take_step.ensures.made
-
-pub returns-clause-err : goal.returns-clause-err
-returns-clause-err g c =
-    let after = state_at c.take_step.new.position c.take_step.new.in_progress in
-    subst (λ p. OnErr c.take_step.result (after ≡ state_at p c.args.in_progress.now)) (c.take_inside.ensures.same c.if-take_inside.false)
-    c.take_step.ensures.err
+    let same = c.take_inside.ensures.same c.if-take_inside.false in
+    record {
+      made = subst (λ p. TakesByte e after.env after.position after.in_progress c.args.byte c.take_step.result
+          (step e (tests_of e) (state_at p c.args.in_progress.now) c.args.byte)) same c.take_step.ensures.made;
+      err = subst (λ p. OnErr c.take_step.result (state_at after.position after.in_progress ≡ state_at p c.args.in_progress.now)) same
+          c.take_step.ensures.err;
+    }

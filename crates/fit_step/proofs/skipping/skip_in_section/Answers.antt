@@ -2,11 +2,17 @@ use Rattle.fit_step.proofs.Common.{◌≡◌, ◌+◌, [], take, refl, ap, ◌�
 use Rattle.fit_step.proofs.SkippedRecords.{skipped_after, none_skipped}
 use Rattle.fit_step.proofs.skipping.skip_in_section.Goals as goal
 
-pub returns-in-Some-clause-skips : goal.returns-in-Some-clause-skips
-returns-in-Some-clause-skips g c = ([], refl, none_skipped c.args.env.now c.args.position.now c.args.in_progress.now c.args.piece.now)
+pub returns-in-Some : goal.returns-in-Some
+returns-in-Some g c = record {
+  within = omega arith;
+  skips = ([], refl, none_skipped c.args.env.now c.args.position.now c.args.in_progress.now c.args.piece.now);
+}
 
-pub returns-then-position-lt6-clause-skips : goal.returns-then-position-lt6-clause-skips
-returns-then-position-lt6-clause-skips g c = ([], refl, none_skipped c.args.env.now c.args.position.now c.args.in_progress.now c.args.piece.now)
+pub returns-then-position-lt6 : goal.returns-then-position-lt6
+returns-then-position-lt6 g c = record {
+  within = omega arith;
+  skips = ([], refl, none_skipped c.args.env.now c.args.position.now c.args.in_progress.now c.args.piece.now);
+}
 
 pub returns-clause-skips : goal.returns-clause-skips
 returns-clause-skips g c =
@@ -22,9 +28,3 @@ returns-clause-skips g c =
       count,
       skipped_after c.args.env.now s.new.env c.args.position.now c.args.in_progress.now piece used records c.in-None.is large all,
     )
-
-pub returns-in-Some-clause-within : goal.returns-in-Some-clause-within
-returns-in-Some-clause-within g c = omega arith
-
-pub returns-then-position-lt6-clause-within : goal.returns-then-position-lt6-clause-within
-returns-then-position-lt6-clause-within g c = omega arith

@@ -27,13 +27,10 @@ skip_record-size-requires g c = assumption
 pub overflow_add-used : goal.overflow_add-used
 overflow_add-used g c = omega (arith, c.skip_record-size.ensures.within, c.split_at.ensures.back_len, c.loop-count.invariant.within)
 
-pub returns-then-size-eq0-clause-records : goal.returns-then-size-eq0-clause-records
-returns-then-size-eq0-clause-records g c =
+pub returns-then-size-eq0 : goal.returns-then-size-eq0
+returns-then-size-eq0 g c =
     let none : c.skip_record-size.result ≡ 0 = omega (arith, c.if-size-eq0.true) in
-    rw (c.skip_record-size.ensures.none none) c.loop-count.invariant.records
-
-pub returns-then-size-eq0-clause-within : goal.returns-then-size-eq0-clause-within
-returns-then-size-eq0-clause-within g c = c.loop-count.invariant.within
+    record { within = c.loop-count.invariant.within; records = rw (c.skip_record-size.ensures.none none) c.loop-count.invariant.records }
 
 pub returns-clause-within : goal.returns-clause-within
 returns-clause-within g c = c.loop-count.invariant.within
