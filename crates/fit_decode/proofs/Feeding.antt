@@ -1,14 +1,14 @@
 -- What a caller of `feed` sees: that the invariant is kept, and what is told of the bytes used.
 use Rattle.fit_decode.proofs.Common.{◌≡◌, ℕ, ◌+◌, ◌<◌, ◌≤◌, List, ◌++◌, length, take, slice_index, refl, sym, ap, ◌∙◌, subst, arith, length-append}
 use Rattle.fit_decode.proofs.Common.{Some, None, Ok, Err, length-take-le, IsBytes, IsBytes-append, IsBytes-take, Reason}
-use Rattle.fit_decode.proofs.Common.{empty_environment, ◌^◌, seen_in, refusal_of, Latched, HoldsAt, Section, Record}
+use Rattle.fit_decode.proofs.Common.{empty_environment, ◌^◌, seen_in, refusal_of, Latched, HoldsAt, Section}
 use Rattle.fit_decode.proofs.Common.{Stop, Inside, Answer, Event, header, item, file_end, event_of, Refuses, Wants, Quiet, Least, AreChain, IsRefused}
 use Rattle.fit_decode.proofs.Common.{Advanced, NotRefused, NextAnswer, Holds, IsSoundDecoder, fields_inside, short_bytes, chain_limit, IsViable}
 use Rattle.std.specs.Prelude.{Option, Result}
 use Rattle.fit_step.specs.declared.stop.Stop.TheVariants.{Refused, NoMemory}
 use Rattle.fit_chain.specs.declared.event.Fault.TheVariants as faults
 use Rattle.fit_decode.specs.Answers.{Seen, fed}
-use Rattle.fit_decode.specs.inner.Feeds.{Feeds, TellsItem}
+use Rattle.fit_decode.specs.inner.Feeds.{Feeds}
 use Rattle.fit_chain.specs.declared.event.Event.TheVariants as answers
 use Rattle.fit_decode.proofs.Ended.{HasEnded, ended_chain, chain_ended}
 
@@ -32,11 +32,11 @@ tells_one {A} bytes piece used (answers.Header h n) t x is = let same : header h
 tells_one {A} bytes piece used (answers.Item r) t x is = let same : item r ≡ x = cc in (t.0, subst (Least A bytes piece used) same t.2)
 tells_one {A} bytes piece used answers.FileEnd t x is = let same : file_end ≡ x = cc in (t.0, subst (Least A bytes piece used) same t.2)
 
-pub not_refused : {A : Type 0} (answer : Result (Answer A) Stop) (event : Answer A) → answer ≡ Ok event → NotRefused answer
-not_refused {A} answer event is = subst (NotRefused {A = A}) (sym is) tt
+pub not_refused : {A : Type 0} {answer : Result (Answer A) Stop} {event : Answer A} → answer ≡ Ok event → NotRefused answer
+not_refused {A} is = subst (NotRefused {A = A}) (sym is) tt
 
-pub not_for_memory : {A : Type 0} (answer : Result (Answer A) Stop) → answer ≡ Err NoMemory → NotRefused answer
-not_for_memory {A} answer is = subst (NotRefused {A = A}) (sym is) tt
+pub not_for_memory : {A : Type 0} {answer : Result (Answer A) Stop} → answer ≡ Err NoMemory → NotRefused answer
+not_for_memory {A} is = subst (NotRefused {A = A}) (sym is) tt
 
 -- ---- the invariant
 
@@ -181,7 +181,7 @@ module _ {A : Type 0} {d now : Inside A} {piece : List ℕ} {used : ℕ} {answer
       let told = seen_told (Err NoMemory) is in
       subst (Wants A old piece (record { bytes = bytes; refusal = refusal_of now.stage.section })) same (record {
         within = told.0;
-        after = (bytes_fed (not_for_memory answer is) bytes noted).1;
+        after = (bytes_fed (not_for_memory is) bytes noted).1;
         quiet = told.1;
         next = told.2;
         takes = told.3;
@@ -195,7 +195,7 @@ module _ {A : Type 0} {d now : Inside A} {piece : List ℕ} {used : ℕ} {answer
         → Feeds A old piece (record { bytes = bytes; refusal = refusal_of now.stage.section }) (Ok (record { used = used; event = event }))
     feeds_event event is = record {
       latched = λ reason refused. fresh_holds_all old.refusal fresh_seen reason refused;
-      used = bytes_fed (not_refused answer event is) bytes noted;
+      used = bytes_fed (not_refused is) bytes noted;
       more = no_event event is;
       event = one_event event is;
       refused = λ _ _ _ never. absurd cc;
@@ -229,11 +229,3 @@ module _ {A : Type 0} {d now : Inside A} {piece : List ℕ} {used : ℕ} {answer
       memory = λ count both. let same : used ≡ count = cc both in wants is bytes noted count same;
       others = λ _. ((λ never. absurd cc), (λ never. absurd cc));
     }
-
--- a record is told
-pub item_told : {A : Type 0} {d now : Inside A} {piece : List ℕ} {used : ℕ} {r : Record A} → Took d now piece used (Ok (answers.Item r)) → {old : Seen}
-    → seen_in d ≡ old → (bytes : List ℕ) → bytes ≡ now.history.items ++ take used piece
-    → TellsItem A old piece (record { bytes = bytes; refusal = refusal_of now.stage.section }) used r
-item_told {r = r} t seen bytes noted =
-    let one = one_event t seen (answers.Item r) refl (item r) refl in
-    record { fresh = fresh_seen t seen; some = one.0; within = within t; after = (bytes_fed t seen tt bytes noted).1; least = one.1 }

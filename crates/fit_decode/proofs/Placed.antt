@@ -1,6 +1,6 @@
 -- A record that stands in its place after the bytes of a data section.
-use Rattle.fit_decode.proofs.Common.{◌≡◌, ℕ, List, ◌++◌, take, refl, sym, ap, ◌∙◌, subst, None, Ok, Err, true, Record, Environment, Position, Stop, Stage}
-use Rattle.fit_decode.proofs.Common.{DataFed, section_of, Answer, FileHeader}
+use Rattle.fit_decode.proofs.Common.{◌≡◌, ℕ, List, ◌++◌, take, refl, sym, subst, None, Ok, Err, true, Record, Environment, Position, Stop, Stage}
+use Rattle.fit_decode.proofs.Common.{DataFed, section_of, FileHeader}
 use Rattle.std.specs.Prelude.{Option, Result}
 use Rattle.fit_step.specs.InProgress.{ReadsInPlace}
 use Rattle.fit_decode.specs.declared.section.Part.{Part}
@@ -23,12 +23,3 @@ left_idle placed (Ok parts.More) none = refl
 left_idle placed (Ok (parts.Header n)) none = refl
 left_idle placed (Ok parts.FileEnd) none = refl
 left_idle placed (Err stop) none = refl
-
--- what an answer tells, by what it is
-pub event_told : {A : Type 0} (placed : Option (Record A)) (head : Option FileHeader) (answer : Result Part Stop) (part : Part) (event : Answer A)
-    → answer ≡ Ok part → Ok event ≡ as_event placed head (Ok part) → as_event placed head answer ≡ Ok event
-event_told placed head answer part event is told = ap (as_event placed head) is ∙ sym told
-
-pub stop_told : {A : Type 0} (placed : Option (Record A)) (head : Option FileHeader) (answer : Result Part Stop) (stop other : Stop) → answer ≡ Err stop
-    → stop ≡ other → as_event placed head answer ≡ Err other
-stop_told placed head answer stop other is same = ap (as_event placed head) (is ∙ ap Err same)

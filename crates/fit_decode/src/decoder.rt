@@ -16,12 +16,12 @@ ghost use Rattle.fit_decode.specs.inner.Feeds.{Feeds};
 mod whole;
 
 use crate::need::bytes_to_come;
-use crate::section::{Part, Section, Stage, take_event};
+use crate::section::{Part, Section, Stage, cover, take_event};
 use crate::{Event, Fault, Fed};
 use fit_frame::{HeadReader, Header, Reason};
 use fit_history::History;
 use fit_record::{Env, Record};
-use fit_step::{Position, Stop, in_progress_size};
+use fit_step::{Position, Stop, in_progress_size, read_message, read_whole_definition};
 use fit_sum::Sum;
 use std::alloc::{Allocator, Global};
 use std::marker::Model;
@@ -119,27 +119,45 @@ impl<A: Allocator + Copy> Decoder<A> {
         // Bytes that aren't refused begin a chain.
         ensures viable { IsViable A chain_limit self.new.bytes }
     {
-        if !self.is_inside_record() {
-            if let Some((values, used)) = self.take_message(piece) {
-                return Ok(Fed {
-                    used,
-                    event: Event::Item(Record::Values(values)),
-                });
+        if let Section::Data = self.stage.section {
+            match read_message(
+                self.alloc,
+                &self.env,
+                &mut self.position,
+                &self.in_progress,
+                piece,
+            ) {
+                Ok(Some((values, used))) => {
+                    cover(&mut self.sum, piece, used);
+                    count_fed(&mut self.history, &mut self.count, piece, used);
+                    return Ok(Fed {
+                        used,
+                        event: Event::Item(Record::Values(values)),
+                    });
+                }
+                Ok(None) => {}
+                Err(_) => {}
             }
-            if let Some((record, used)) = self.take_definition(piece) {
-                return Ok(Fed {
-                    used,
-                    event: Event::Item(record),
-                });
+            match read_whole_definition(
+                self.alloc,
+                &mut self.env,
+                &mut self.position,
+                &self.in_progress,
+                piece,
+            ) {
+                Ok(Some((record, used))) => {
+                    cover(&mut self.sum, piece, used);
+                    count_fed(&mut self.history, &mut self.count, piece, used);
+                    return Ok(Fed {
+                        used,
+                        event: Event::Item(record),
+                    });
+                }
+                Ok(None) => {}
+                Err(_) => {}
             }
         }
         self.feed_part(piece)
-    }
-
-    /// Whether bytes of a record have come that isn't whole. Then `feed` needn't look for one that is whole in the piece.
-    #[inline(always)]
-    fn is_inside_record(&self) -> bool {
-        self.in_progress.is_some()
     }
 
     /// Does what `feed` does, whatever the piece begins with. A header or a record that is complete stays in its place until it is told,
@@ -151,15 +169,13 @@ impl<A: Allocator + Copy> Decoder<A> {
     {
         let mut head: Option<Header> = None;
         let (used, answer) = match self.stage.section {
-            Section::Header => {
-                self.stage.feed_header(
-                    &mut self.reader,
-                    &mut self.position,
-                    &mut self.sum,
-                    &mut head,
-                    piece,
-                )
-            }
+            Section::Header => self.stage.feed_header(
+                &mut self.reader,
+                &mut self.position,
+                &mut self.sum,
+                &mut head,
+                piece,
+            ),
             Section::Data => self.stage.feed_data(
                 self.alloc,
                 &mut self.env,
@@ -172,10 +188,7 @@ impl<A: Allocator + Copy> Decoder<A> {
                 self.stage
                     .feed_sum(self.alloc, &mut self.env, &mut self.sum, piece)
             }
-            Section::Latched(reason) => {
-                let place = self.count;
-                return Err(Fault::Refused { place, reason });
-            }
+            Section::Latched(reason) => return Err(refused_at(self.count, reason)),
         };
         count_fed(&mut self.history, &mut self.count, piece, used);
         match answer {
@@ -187,15 +200,12 @@ impl<A: Allocator + Copy> Decoder<A> {
                 let event = take_event(part, &mut self.in_progress, &mut head);
                 Ok(Fed { used, event })
             }
-            Err(stop) => match stop {
-                Stop::Refused(reason) => {
-                    self.stage.section = Section::Latched(reason);
-                    let_go(self.alloc, &mut self.env, &mut self.in_progress);
-                    let place = self.count;
-                    Err(Fault::Refused { place, reason })
-                }
-                Stop::NoMemory => Err(Fault::NoMemory { used: used as u64 }),
-            },
+            Err(Stop::Refused(reason)) => {
+                self.stage.section = Section::Latched(reason);
+                let_go(self.alloc, &mut self.env, &mut self.in_progress);
+                Err(refused_at(self.count, reason))
+            }
+            Err(Stop::NoMemory) => Err(Fault::NoMemory { used: used as u64 }),
         }
     }
 
@@ -209,10 +219,7 @@ impl<A: Allocator + Copy> Decoder<A> {
             → result ≡ Err (Fault.Refused (length self.now.bytes) reason) }
     {
         if let Section::Latched(reason) = self.stage.section {
-            return Err(Fault::Refused {
-                place: self.count,
-                reason,
-            });
+            return Err(refused_at(self.count, reason));
         }
         if has_ended(&self.stage, &self.reader) {
             Ok(())
@@ -283,6 +290,13 @@ impl<A: Allocator + Copy> Decoder<A> {
     }
 }
 
+/// The fault of a refused byte.
+fn refused_at(place: u64, reason: Reason) -> Fault
+    ensures { result ≡ Fault.Refused place reason }
+{
+    Fault::Refused { place, reason }
+}
+
 /// Nothing is known any more, and no record is in progress.
 #[cold]
 #[inline(never)]
@@ -305,18 +319,4 @@ fn count_fed(history: &mut History<u8>, count: &mut u64, piece: &[u8], used: usi
     let (taken, _) = piece.split_at(used);
     history.note(taken);
     *count += used as u64;
-}
-
-/// Counts the first bytes of the piece as fed, and covers them by the closing checksum.
-#[inline(always)]
-fn cover(sum: &mut Sum, history: &mut History<u8>, count: &mut u64, piece: &[u8], used: usize)
-    requires within { used ≤ length piece.now }
-    requires fits { count.old + used < 2 ^ 64 }
-    ensures covered { sum.new ≡ sum.old ++ take used piece.now }
-    ensures noted { history.new.items ≡ history.old.items ++ take used piece.now }
-    ensures counted { count.new ≡ count.old + used }
-{
-    let (covered, _) = piece.split_at(used);
-    sum.add_all(covered);
-    count_fed(history, count, piece, used);
 }

@@ -1,5 +1,5 @@
 //! The bytes of a piece that belong to one section of a file: its header, its data section, or its closing checksum.
-ghost use Rattle.std.specs.Prelude.{◌≡◌, ◌<◌, None, Ok, Option};
+ghost use Rattle.std.specs.Prelude.{◌≡◌, ◌<◌, ◌≤◌, ◌++◌, length, take, None, Ok, Option};
 ghost use Rattle.fit_frame.specs.declared.header.Header.{Header as FileHeader};
 ghost use Rattle.fit_record.specs.declared.message.Record.{Record};
 ghost use Rattle.fit_record.specs.Files.{chain_limit};
@@ -84,6 +84,16 @@ fn section_of(room: u32) -> Section
     }
 }
 
+/// Covers the first bytes of the piece by the closing checksum.
+#[inline(always)]
+pub(crate) fn cover(sum: &mut Sum, piece: &[u8], used: usize)
+    requires { used ≤ length piece.now }
+    ensures { sum.new ≡ sum.old ++ take used piece.now }
+{
+    let (covered, _) = piece.split_at(used);
+    sum.add_all(covered);
+}
+
 impl Stage {
     /// Bytes of a header. A complete one is left in its place.
     #[cold]
@@ -105,8 +115,7 @@ impl Stage {
             return (0, Err(Stop::Refused(Reason::TooManyFiles)));
         }
         let (used, answer) = scan_header(reader, piece);
-        let (taken, _) = piece.split_at(used);
-        sum.add_all(taken);
+        cover(sum, piece, used);
         match answer {
             Ok(None) => (used, Ok(Part::More)),
             Ok(Some((header, size))) => {
@@ -137,8 +146,7 @@ impl Stage {
             piece.now result.0 (as_event in_progress.new head result.1) }
     {
         let (used, answer) = read_in_place(alloc, env, position, in_progress, piece);
-        let (taken, _) = piece.split_at(used);
-        sum.add_all(taken);
+        cover(sum, piece, used);
         match answer {
             Ok(false) => (used, Ok(Part::More)),
             Ok(true) => {

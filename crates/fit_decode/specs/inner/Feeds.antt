@@ -1,11 +1,10 @@
 -- What a decoder makes of a piece. No public contract names these.
 use Rattle.std.specs.Prelude.{◌≡◌, ℕ, ◌<◌, ◌≤◌, List, length, Some, None, Result, Err, IfOk}
 use Rattle.fit_frame.specs.declared.reason.Reason.{Reason}
-use Rattle.fit_record.specs.declared.message.Record.{Record}
 use Rattle.fit_chain.specs.declared.event.Fed.{Fed}
 use Rattle.fit_chain.specs.declared.event.Fault.{Fault}
 use Rattle.fit_chain.specs.declared.event.Fault.TheVariants.{Refused, Truncated, NoMemory, Read}
-use Rattle.fit_chain.specs.Events.{Event, item}
+use Rattle.fit_chain.specs.Events.{Event}
 use Rattle.fit_chain.specs.Pieces.{Quiet, Least}
 use Rattle.fit_decode.specs.Answers.{Seen, event_of, fed, Refuses, Wants}
 
@@ -18,11 +17,3 @@ pub record Feeds (A : Type 0) (old : Seen) (piece : List ℕ) (new : Seen) (resu
   pub refused : (place : ℕ) (reason : Reason) → old.refusal ≡ None → result ≡ Err (Refused place reason) → Refuses A old piece new place reason
   pub memory : (used : ℕ) → result ≡ Err (NoMemory used) → Wants A old piece new used
   pub others : (place : ℕ) → (result ≡ Err (Truncated place) → ⊥) × (result ≡ Err (Read place) → ⊥)
-
--- That many bytes of the piece tell this record, and no fewer do.
-pub record TellsItem (A : Type 0) (old : Seen) (piece : List ℕ) (new : Seen) (used : ℕ) (r : Record A) : Type 0 where
-  pub fresh : old.refusal ≡ None
-  pub some : 0 < used
-  pub within : used ≤ length piece
-  pub after : new ≡ fed old piece used
-  pub least : Least A old.bytes piece used (item r)

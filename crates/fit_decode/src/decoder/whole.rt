@@ -1,5 +1,5 @@
-//! Takes and skips records that are whole in a piece.
-ghost use Rattle.std.specs.Prelude.{◌≡◌, ℕ, ◌<◌, ◌≤◌, List, [], ◌∷◌, ◌++◌, length, take, Some, None, IfSome, IfNone};
+//! Skips records that are whole in a piece.
+ghost use Rattle.std.specs.Prelude.{◌≡◌, ℕ, ◌<◌, ◌≤◌, List, [], ◌∷◌, ◌++◌, length, take, Some, None};
 ghost use Rattle.fit_frame.specs.declared.reason.Reason.{Reason};
 ghost use Rattle.fit_record.specs.Files.{chain_limit, IsViable};
 ghost use Rattle.fit_record.specs.Records.{IsRecord};
@@ -9,79 +9,13 @@ ghost use Rattle.fit_chain.specs.Events.{Event as Told, AreEvents, item, known_a
 ghost use Rattle.fit_chain.specs.Memory.{IsAny, MayLackMemoryIn};
 ghost use Rattle.fit_decode.specs.Answers.{MessageFollows};
 ghost use Rattle.fit_chain.specs.Pieces.{TellsRecords};
-ghost use Rattle.fit_decode.specs.inner.Feeds.{TellsItem};
 
-use super::{Decoder, cover};
-use crate::section::Section;
-use fit_record::{Record, Values};
-use fit_step::{read_message, read_whole_definition, skip_in_section, skip_message_in_section};
+use super::{Decoder, count_fed};
+use crate::section::{Section, cover};
+use fit_step::{skip_in_section, skip_message_in_section};
 use std::alloc::Allocator;
 
 impl<A: Allocator + Copy> Decoder<A> {
-    /// Takes a data message that is whole in the piece, where one begins there: the message, and how many bytes were used. Where
-    /// there is none, nothing changes.
-    #[inline(always)]
-    pub(super) fn take_message(&mut self, piece: &[u8]) -> Option<(Values<A>, usize)>
-        ensures item { IfSome result (λ whole. TellsItem A self.old piece.now self.new whole.1
-            (Data whole.0)) }
-        ensures none { IfNone result (self.new ≡ self.old) }
-        ensures viable { IsViable A chain_limit self.new.bytes }
-    {
-        let Section::Data = self.stage.section else {
-            return None;
-        };
-        let Ok(found) = read_message(
-            self.alloc,
-            &self.env,
-            &mut self.position,
-            &self.in_progress,
-            piece,
-        ) else {
-            return None;
-        };
-        let (values, length) = found?;
-        cover(
-            &mut self.sum,
-            &mut self.history,
-            &mut self.count,
-            piece,
-            length,
-        );
-        Some((values, length))
-    }
-
-    /// Takes a definition message that is whole in the piece, where one begins there, and learns it: the record, and how many bytes
-    /// were used. Where there is none, nothing changes.
-    #[inline(always)]
-    pub(super) fn take_definition(&mut self, piece: &[u8]) -> Option<(Record<A>, usize)>
-        ensures item { IfSome result (λ whole. TellsItem A self.old piece.now self.new whole.1
-            whole.0) }
-        ensures none { IfNone result (self.new ≡ self.old) }
-        ensures viable { IsViable A chain_limit self.new.bytes }
-    {
-        let Section::Data = self.stage.section else {
-            return None;
-        };
-        let Ok(found) = read_whole_definition(
-            self.alloc,
-            &mut self.env,
-            &mut self.position,
-            &self.in_progress,
-            piece,
-        ) else {
-            return None;
-        };
-        let (record, length) = found?;
-        cover(
-            &mut self.sum,
-            &mut self.history,
-            &mut self.count,
-            piece,
-            length,
-        );
-        Some((record, length))
-    }
-
     /// Skips records at the front of the piece: they count as fed, what they define is learned, and no event is made of them.
     /// Returns how many bytes were used, and how many records they are. It refuses nothing, and takes memory only for
     /// definition messages.
@@ -111,13 +45,8 @@ impl<A: Allocator + Copy> Decoder<A> {
             &self.in_progress,
             piece,
         );
-        cover(
-            &mut self.sum,
-            &mut self.history,
-            &mut self.count,
-            piece,
-            skipped,
-        );
+        cover(&mut self.sum, piece, skipped);
+        count_fed(&mut self.history, &mut self.count, piece, skipped);
         (skipped, count)
     }
 
@@ -146,13 +75,8 @@ impl<A: Allocator + Copy> Decoder<A> {
             return 0;
         };
         let size = skip_message_in_section(&self.env, &mut self.position, &self.in_progress, piece);
-        cover(
-            &mut self.sum,
-            &mut self.history,
-            &mut self.count,
-            piece,
-            size,
-        );
+        cover(&mut self.sum, piece, size);
+        count_fed(&mut self.history, &mut self.count, piece, size);
         size
     }
 }

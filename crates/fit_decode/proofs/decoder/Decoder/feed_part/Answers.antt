@@ -1,4 +1,4 @@
-use Rattle.fit_decode.proofs.Common.{None, Ok, refl, sym, ap, ◌∙◌, rules, layout, slice_is_bytes, fields_inside, refusal_of}
+use Rattle.fit_decode.proofs.Common.{◌≡◌, None, Ok, Err, refl, sym, ap, ◌∙◌, rules, layout, slice_is_bytes, fields_inside, refusal_of}
 use Rattle.fit_decode.specs.contracts.decoder.Decoder.{the_row}
 use Rattle.fit_decode.specs.contracts.decoder.Decoder.feed_part.{A-row}
 use Rattle.fit_step.specs.declared.stop.Stop.TheVariants as stops
@@ -9,12 +9,13 @@ use Rattle.fit_decode.proofs.Advancing.{at_section, header_fresh, header_open, d
 use Rattle.fit_decode.proofs.Sections.{header_fed, data_fed}
 use Rattle.fit_decode.proofs.ClosingSums.{sum_fed}
 use Rattle.fit_decode.specs.inner.Sections.{as_event, left_by}
-use Rattle.fit_decode.proofs.Placed.{left_idle, event_told, stop_told}
+use Rattle.fit_decode.proofs.Placed.{left_idle}
 use Rattle.fit_decode.proofs.Feeding.{Took, takes, within, few_bytes, still_kept, refused_kept, not_refused, not_for_memory, was_viable}
 use Rattle.fit_decode.proofs.Feeding.{feeds_latched, feeds_event, feeds_refusal, feeds_want}
 use Rattle.fit_decode.proofs.decoder.Decoder.feed_part.Given as given
 use Rattle.fit_decode.proofs.decoder.Decoder.feed_part.Goals as goal
 use Rattle.fit_decode.proofs.decoder.Decoder.feed_part.Goals.{Joined-self, in-Header, in-Data, in-ClosingSum}
+use Rattle.fit_decode.proofs.decoder.Decoder.feed_part.Goals.{In-Ok-More, After-take_event-event, In-Err-Refused, In-Err-NoMemory}
 
 -- where the sections meet
 took : (g : given.Over) (c : Joined-self g)
@@ -49,12 +50,27 @@ took g c =
           (f.ensures d.in_progress None)) refl refl)
     ]
 
-pub returns-in-Latched-clause-feeds : goal.returns-in-Latched-clause-feeds
-returns-in-Latched-clause-feeds g c =
-    feeds_latched c.self.inside c.self.invariant c.args.self.now c.self.view_is c.args.piece.now c.in-Latched.reason c.in-Latched.is
+-- what was answered, by the arm
+more : (g : given.Over) (c : In-Ok-More g) → c.match-self.used.1 ≡ Ok parts.More
+more g c = c.in-Ok-More.is ∙ ap Ok (rw c.in-Ok-More.is at c.in-Ok-More.field-0-is)
 
-pub returns-in-Latched-clause-viable : goal.returns-in-Latched-clause-viable
-returns-in-Latched-clause-viable g c = was_viable c.self.inside c.self.invariant c.args.self.now c.self.view_is
+refused : (g : given.Over) (c : In-Err-Refused g) → c.match-self.used.1 ≡ Err (stops.Refused c.in-Err-Refused.reason)
+refused g c = c.in-Err-Refused.is ∙ ap Err (rw c.in-Err-Refused.is at c.in-Err-Refused.field-0-is)
+
+no_memory : (g : given.Over) (c : In-Err-NoMemory g) → c.match-self.used.1 ≡ Err stops.NoMemory
+no_memory g c = c.in-Err-NoMemory.is ∙ ap Err (rw c.in-Err-NoMemory.is at c.in-Err-NoMemory.field-0-is)
+
+-- what it tells
+event_told : (g : given.Over) (c : After-take_event-event g)
+    → as_event c.match-self.self-inside.in_progress c.match-self.head c.match-self.used.1 ≡ Ok c.take_event-event.result
+event_told g c = ap (as_event c.match-self.self-inside.in_progress c.match-self.head) c.in-Ok.is ∙ sym c.take_event-event.ensures.event
+
+pub returns-in-Latched : goal.returns-in-Latched
+returns-in-Latched g c = record {
+  feeds = rw c.refused_at.ensures
+      (feeds_latched c.self.inside c.self.invariant c.args.self.now c.self.view_is c.args.piece.now c.in-Latched.reason c.in-Latched.is);
+  viable = was_viable c.self.inside c.self.invariant c.args.self.now c.self.view_is;
+}
 
 pub feed_header-requires-clause-fresh : goal.feed_header-requires-clause-fresh
 feed_header-requires-clause-fresh g c = header_fresh c.self.invariant c.in-Header.is
@@ -85,13 +101,11 @@ count_fed-requires-clause-fits g c = few_bytes (took g (goal.at.count_fed-requir
 
 pub invariant_of-self : goal.invariant_of-self
 invariant_of-self g c =
-    let same = c.in-Ok-More.is ∙ ap Ok (rw c.in-Ok-More.is at c.in-Ok-More.field-0-is) in
+    let same = more g (goal.at.invariant_of-self g c).In-Ok-More in
     still_kept (took g (goal.at.invariant_of-self g c).Joined-self) _
     c.count_fed.ensures.noted c.count_fed.ensures.counted
     (λ i. record (fields_inside c.match-self.self-inside) { in_progress = ap (left_by c.match-self.self-inside.in_progress) (sym same) i })
-    (not_refused (as_event c.match-self.self-inside.in_progress c.match-self.head
-    c.match-self.used.1) events.More
-    (event_told c.match-self.self-inside.in_progress c.match-self.head c.match-self.used.1 parts.More events.More same refl))
+    (not_refused (ap (as_event c.match-self.self-inside.in_progress c.match-self.head) same))
 
 pub invariant_of-self-in-Ok : goal.invariant_of-self-in-Ok
 invariant_of-self-in-Ok g c =
@@ -100,65 +114,53 @@ invariant_of-self-in-Ok g c =
     (λ i. record (fields_inside c.match-self.self-inside) {
       in_progress = (c.take_event-event.ensures.left ∙ ap (left_by c.match-self.self-inside.in_progress) (sym c.in-Ok.is)) i;
     })
-    (not_refused (as_event c.match-self.self-inside.in_progress c.match-self.head
-    c.match-self.used.1) c.take_event-event.result
-    (event_told c.match-self.self-inside.in_progress c.match-self.head c.match-self.used.1 c.in-Ok.part
-    c.take_event-event.result c.in-Ok.is c.take_event-event.ensures.event))
+    (not_refused (event_told g (goal.at.invariant_of-self-in-Ok g c).After-take_event-event))
 
-pub invariant_of-self-in-Refused : goal.invariant_of-self-in-Refused
-invariant_of-self-in-Refused g c =
-    refused_kept (took g (goal.at.invariant_of-self-in-Refused g c).Joined-self) _
-    c.count_fed.ensures.noted c.count_fed.ensures.counted c.in-Refused.reason refl c.let_go.ensures.known
+pub invariant_of-self-in-Err-Refused : goal.invariant_of-self-in-Err-Refused
+invariant_of-self-in-Err-Refused g c =
+    refused_kept (took g (goal.at.invariant_of-self-in-Err-Refused g c).Joined-self) _
+    c.count_fed.ensures.noted c.count_fed.ensures.counted c.in-Err-Refused.reason refl c.let_go.ensures.known
     c.let_go.ensures.idle
 
-pub invariant_of-self-in-NoMemory : goal.invariant_of-self-in-NoMemory
-invariant_of-self-in-NoMemory g c =
-    still_kept (took g (goal.at.invariant_of-self-in-NoMemory g c).Joined-self) _
+pub invariant_of-self-in-Err-NoMemory : goal.invariant_of-self-in-Err-NoMemory
+invariant_of-self-in-Err-NoMemory g c =
+    let same = no_memory g (goal.at.invariant_of-self-in-Err-NoMemory g c).In-Err-NoMemory in
+    still_kept (took g (goal.at.invariant_of-self-in-Err-NoMemory g c).Joined-self) _
     c.count_fed.ensures.noted c.count_fed.ensures.counted
-    (λ i. record (fields_inside c.match-self.self-inside) {
-      in_progress = ap (left_by c.match-self.self-inside.in_progress) (sym c.in-Err.is) i;
-    })
-    (not_for_memory (as_event c.match-self.self-inside.in_progress c.match-self.head
-    c.match-self.used.1)
-    (stop_told c.match-self.self-inside.in_progress c.match-self.head c.match-self.used.1
-    c.in-Err.stop stops.NoMemory c.in-Err.is c.in-NoMemory.is))
+    (λ i. record (fields_inside c.match-self.self-inside) { in_progress = ap (left_by c.match-self.self-inside.in_progress) (sym same) i })
+    (not_for_memory (ap (as_event c.match-self.self-inside.in_progress c.match-self.head) same))
 
-pub returns-in-Ok-More-clause-feeds : goal.returns-in-Ok-More-clause-feeds
-returns-in-Ok-More-clause-feeds g c =
-    let same = c.in-Ok-More.is ∙ ap Ok (rw c.in-Ok-More.is at c.in-Ok-More.field-0-is) in
-    feeds_event (took g (goal.at.returns-in-Ok-More-clause-feeds g c).Joined-self) c.self.view_is c.count_fed.new.history.items
-    c.count_fed.ensures.noted events.More
-    (event_told c.match-self.self-inside.in_progress c.match-self.head c.match-self.used.1 parts.More events.More same refl)
+pub returns-in-Ok-More : goal.returns-in-Ok-More
+returns-in-Ok-More g c =
+    let same = more g (goal.at.returns-in-Ok-More g c).In-Ok-More in
+    record {
+      feeds = feeds_event (took g (goal.at.returns-in-Ok-More g c).Joined-self) c.self.view_is c.count_fed.new.history.items
+          c.count_fed.ensures.noted events.More (ap (as_event c.match-self.self-inside.in_progress c.match-self.head) same);
+      viable = (invariant_of-self g c).viable;
+    }
 
-pub returns-in-Ok-More-clause-viable : goal.returns-in-Ok-More-clause-viable
-returns-in-Ok-More-clause-viable g c = (invariant_of-self g c).viable
+pub returns-in-Ok : goal.returns-in-Ok
+returns-in-Ok g c = record {
+  feeds = feeds_event (took g (goal.at.returns-in-Ok g c).Joined-self) c.self.view_is c.count_fed.new.history.items
+      c.count_fed.ensures.noted c.take_event-event.result (event_told g (goal.at.returns-in-Ok g c).After-take_event-event);
+  viable = (invariant_of-self-in-Ok g c).viable;
+}
 
-pub returns-in-Ok-clause-feeds : goal.returns-in-Ok-clause-feeds
-returns-in-Ok-clause-feeds g c =
-    feeds_event (took g (goal.at.returns-in-Ok-clause-feeds g c).Joined-self) c.self.view_is c.count_fed.new.history.items
-    c.count_fed.ensures.noted c.take_event-event.result
-    (event_told c.match-self.self-inside.in_progress c.match-self.head c.match-self.used.1 c.in-Ok.part
-    c.take_event-event.result c.in-Ok.is c.take_event-event.ensures.event)
+pub returns-in-Err-Refused : goal.returns-in-Err-Refused
+returns-in-Err-Refused g c =
+    let same = refused g (goal.at.returns-in-Err-Refused g c).In-Err-Refused in
+    record {
+      feeds = rw c.refused_at-in-Err-Refused.ensures (feeds_refusal (took g (goal.at.returns-in-Err-Refused g c).Joined-self) c.self.view_is
+          c.count_fed.new.history.items c.count_fed.ensures.noted c.in-Err-Refused.reason
+          (ap (as_event c.match-self.self-inside.in_progress c.match-self.head) same) c.count_fed.new.count c.count_fed.ensures.counted);
+      viable = (invariant_of-self-in-Err-Refused g c).viable;
+    }
 
-pub returns-in-Ok-clause-viable : goal.returns-in-Ok-clause-viable
-returns-in-Ok-clause-viable g c = (invariant_of-self-in-Ok g c).viable
-
-pub returns-in-Refused-clause-feeds : goal.returns-in-Refused-clause-feeds
-returns-in-Refused-clause-feeds g c =
-    feeds_refusal (took g (goal.at.returns-in-Refused-clause-feeds g c).Joined-self) c.self.view_is c.count_fed.new.history.items
-    c.count_fed.ensures.noted c.in-Refused.reason
-    (stop_told c.match-self.self-inside.in_progress c.match-self.head c.match-self.used.1
-    c.in-Err.stop (stops.Refused c.in-Refused.reason) c.in-Err.is c.in-Refused.is) c.count_fed.new.count c.count_fed.ensures.counted
-
-pub returns-in-Refused-clause-viable : goal.returns-in-Refused-clause-viable
-returns-in-Refused-clause-viable g c = (invariant_of-self-in-Refused g c).viable
-
-pub returns-in-NoMemory-clause-feeds : goal.returns-in-NoMemory-clause-feeds
-returns-in-NoMemory-clause-feeds g c =
-    feeds_want (took g (goal.at.returns-in-NoMemory-clause-feeds g c).Joined-self) c.self.view_is c.count_fed.new.history.items
-    c.count_fed.ensures.noted
-    (stop_told c.match-self.self-inside.in_progress c.match-self.head c.match-self.used.1
-    c.in-Err.stop stops.NoMemory c.in-Err.is c.in-NoMemory.is)
-
-pub returns-in-NoMemory-clause-viable : goal.returns-in-NoMemory-clause-viable
-returns-in-NoMemory-clause-viable g c = (invariant_of-self-in-NoMemory g c).viable
+pub returns-in-Err-NoMemory : goal.returns-in-Err-NoMemory
+returns-in-Err-NoMemory g c =
+    let same = no_memory g (goal.at.returns-in-Err-NoMemory g c).In-Err-NoMemory in
+    record {
+      feeds = feeds_want (took g (goal.at.returns-in-Err-NoMemory g c).Joined-self) c.self.view_is c.count_fed.new.history.items
+          c.count_fed.ensures.noted (ap (as_event c.match-self.self-inside.in_progress c.match-self.head) same);
+      viable = (invariant_of-self-in-Err-NoMemory g c).viable;
+    }

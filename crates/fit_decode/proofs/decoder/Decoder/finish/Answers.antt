@@ -1,4 +1,4 @@
-use Rattle.fit_decode.proofs.Common.{◌≡◌, length, refl, sym, ◌∙◌, Err, true, Truncated}
+use Rattle.fit_decode.proofs.Common.{◌≡◌, length, refl, sym, ap, ◌∙◌, Err, true, Truncated}
 use Rattle.fit_chain.specs.declared.event.Fault.TheVariants.{Refused}
 use Rattle.fit_decode.proofs.Feeding.{not_latched, none_refused, place_seen, reason_seen, reason_kept, chain_fed, ends_with_chain}
 use Rattle.fit_decode.proofs.decoder.Decoder.finish.Goals as goal
@@ -15,7 +15,7 @@ returns-in-Latched-clause-refused g c = λ reason is.
     let place : c.self.inside.count ≡ length c.args.self.now.bytes = place_seen c.self.inside c.self.invariant c.args.self.now c.self.view_is in
     let same : c.in-Latched.reason ≡ reason =
     reason_seen c.self.inside c.self.invariant c.args.self.now c.self.view_is c.in-Latched.reason reason c.in-Latched.is is in
-    λ i. Err (Refused (place i) (same i))
+    ap Err c.refused_at.ensures ∙ λ i. Err (Refused (place i) (same i))
 
 pub returns-then-has_ended-clause-good : goal.returns-then-has_ended-clause-good
 returns-then-has_ended-clause-good g c =

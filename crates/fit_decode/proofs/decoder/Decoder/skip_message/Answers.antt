@@ -14,11 +14,14 @@ returns-in_default-clause-viable g c = was_viable c.self.inside c.self.invariant
 pub skip_message_in_section-size-requires : goal.skip_message_in_section-size-requires
 skip_message_in_section-size-requires g c = field_is_within 3 (layout (the_row (A-row g.row.A) g.A.Allocator)) _ (search rules)
 
-pub cover-requires-clause-within : goal.cover-requires-clause-within
-cover-requires-clause-within g c = c.skip_message_in_section-size.ensures.within
+pub cover-requires : goal.cover-requires
+cover-requires g c = c.skip_message_in_section-size.ensures.within
 
-pub cover-requires-clause-fits : goal.cover-requires-clause-fits
-cover-requires-clause-fits g c =
+pub count_fed-requires-clause-within : goal.count_fed-requires-clause-within
+count_fed-requires-clause-within g c = c.skip_message_in_section-size.ensures.within
+
+pub count_fed-requires-clause-fits : goal.count_fed-requires-clause-fits
+count_fed-requires-clause-fits g c =
     let s = c.skip_message_in_section-size in
     let d = c.self.inside in
     let (records, skip) = message_skipped d.env d.position s.new.position d.in_progress c.args.piece.now s.result s.ensures.none s.ensures.message in
@@ -31,7 +34,7 @@ invariant_of-self g c =
     let d = c.self.inside in
     let (records, skip) = message_skipped d.env d.position s.new.position d.in_progress c.args.piece.now s.result s.ensures.none s.ensures.message in
     skipped_kept d c.self.invariant c.in-Data.is c.args.piece.now d.env c.cover.new.sum s.new.position s.result records
-    (slice_is_bytes c.args.piece.now c.type_inv.piece) s.ensures.within skip c.cover.ensures.covered _ c.cover.ensures.noted refl c.cover.ensures.counted
+    (slice_is_bytes c.args.piece.now c.type_inv.piece) s.ensures.within skip c.cover.ensures _ c.count_fed.ensures.noted refl c.count_fed.ensures.counted
 
 pub returns-clause-message : goal.returns-clause-message
 returns-clause-message g c = λ some events are.
@@ -39,8 +42,8 @@ returns-clause-message g c = λ some events are.
     let d = c.self.inside in
     let (v, skip) = s.ensures.message some in
     let told = records_skipped d c.self.invariant c.in-Data.is c.args.piece.now d.env c.cover.new.sum s.new.position s.result (Message v ∷ [])
-    (slice_is_bytes c.args.piece.now c.type_inv.piece) s.ensures.within skip c.cover.ensures.covered
-    c.args.self.now c.self.view_is c.cover.new.history.items c.cover.ensures.noted events are in
+    (slice_is_bytes c.args.piece.now c.type_inv.piece) s.ensures.within skip c.cover.ensures
+    c.args.self.now c.self.view_is c.count_fed.new.history.items c.count_fed.ensures.noted events are in
     (v, (told.0.0.0, told.0.1 ∙ append-nil (record_bytes (known_after events) (Message v))), told.1)
 
 pub returns-clause-completes : goal.returns-clause-completes
@@ -68,7 +71,7 @@ returns-clause-whole g c = λ none size follows.
 pub returns-clause-used : goal.returns-clause-used
 returns-clause-used g c =
     used_more c.self.inside c.args.self.now c.self.view_is
-    c.cover.new.history.items (take c.skip_message_in_section-size.result c.args.piece.now) c.cover.ensures.noted
+    c.count_fed.new.history.items (take c.skip_message_in_section-size.result c.args.piece.now) c.count_fed.ensures.noted
 
 pub returns-in_default-clause-used : goal.returns-in_default-clause-used
 returns-in_default-clause-used g c = used_none c.args.self.now

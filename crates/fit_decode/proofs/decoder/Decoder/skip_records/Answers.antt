@@ -12,11 +12,14 @@ returns-in_default-clause-viable g c = was_viable c.self.inside c.self.invariant
 pub skip_in_section-skipped-requires : goal.skip_in_section-skipped-requires
 skip_in_section-skipped-requires g c = field_is_within 3 (layout (the_row (A-row g.row.A) g.A.Allocator)) _ (search rules)
 
-pub cover-requires-clause-within : goal.cover-requires-clause-within
-cover-requires-clause-within g c = c.skip_in_section-skipped.ensures.within
+pub cover-requires : goal.cover-requires
+cover-requires g c = c.skip_in_section-skipped.ensures.within
 
-pub cover-requires-clause-fits : goal.cover-requires-clause-fits
-cover-requires-clause-fits g c =
+pub count_fed-requires-clause-within : goal.count_fed-requires-clause-within
+count_fed-requires-clause-within g c = c.skip_in_section-skipped.ensures.within
+
+pub count_fed-requires-clause-fits : goal.count_fed-requires-clause-fits
+count_fed-requires-clause-fits g c =
     let s = c.skip_in_section-skipped in
     let (records, count, skip) = s.ensures.skips in
     few_skipped c.self.inside c.self.invariant c.in-Data.is c.args.piece.now s.new.env (c.self.inside.sum ++ take s.result.0 c.args.piece.now) s.new.position
@@ -27,15 +30,15 @@ invariant_of-self g c =
     let s = c.skip_in_section-skipped in
     let (records, count, skip) = s.ensures.skips in
     skipped_kept c.self.inside c.self.invariant c.in-Data.is c.args.piece.now s.new.env c.cover.new.sum s.new.position s.result.0 records
-    (slice_is_bytes c.args.piece.now c.type_inv.piece) s.ensures.within skip c.cover.ensures.covered _ c.cover.ensures.noted refl c.cover.ensures.counted
+    (slice_is_bytes c.args.piece.now c.type_inv.piece) s.ensures.within skip c.cover.ensures _ c.count_fed.ensures.noted refl c.count_fed.ensures.counted
 
 pub returns-clause-records : goal.returns-clause-records
 returns-clause-records g c = λ events are.
     let s = c.skip_in_section-skipped in
     let (records, count, skip) = s.ensures.skips in
     let told = records_skipped c.self.inside c.self.invariant c.in-Data.is c.args.piece.now s.new.env c.cover.new.sum s.new.position s.result.0 records
-    (slice_is_bytes c.args.piece.now c.type_inv.piece) s.ensures.within skip c.cover.ensures.covered
-    c.args.self.now c.self.view_is c.cover.new.history.items c.cover.ensures.noted events are in
+    (slice_is_bytes c.args.piece.now c.type_inv.piece) s.ensures.within skip c.cover.ensures
+    c.args.self.now c.self.view_is c.count_fed.new.history.items c.count_fed.ensures.noted events are in
     (records, count, told.1)
 
 pub returns-clause-refused : goal.returns-clause-refused
@@ -47,7 +50,7 @@ returns-clause-viable g c = (invariant_of-self g c).viable
 pub returns-clause-used : goal.returns-clause-used
 returns-clause-used g c =
     used_more c.self.inside c.args.self.now c.self.view_is
-    c.cover.new.history.items (take c.skip_in_section-skipped.result.0 c.args.piece.now) c.cover.ensures.noted
+    c.count_fed.new.history.items (take c.skip_in_section-skipped.result.0 c.args.piece.now) c.count_fed.ensures.noted
 
 pub returns-in_default-clause-used : goal.returns-in_default-clause-used
 returns-in_default-clause-used g c = used_none c.args.self.now

@@ -1,4 +1,4 @@
-use Rattle.fit_decode.proofs.Common.{◌++◌, refl, ap, ◌∙◌}
+use Rattle.fit_decode.proofs.Common.{refl, ap}
 use Rattle.fit_decode.proofs.Placed.{placed_fed}
 use Rattle.fit_step.proofs.ReadBytes.{tells_more, tells_stop, tells_in_place}
 use Rattle.fit_decode.proofs.section.Stage.feed_data.Goals as goal
@@ -9,7 +9,7 @@ returns-in-Ok-false g c = λ head.
       tells_more c.args.env.now c.args.env.now read.new.env c.args.position.now c.args.position.now read.new.position c.args.in_progress.now
           read.new.in_progress c.args.piece.now read.result.0 read.result.1 read.ensures.reads c.in-Ok-false.field-0 c.in-Ok-false.is
           c.in-Ok-false.field-0-test,
-      c.add_all.ensures ∙ ap (λ l. c.args.sum.now ++ l) c.split_at.ensures.front,
+      c.cover.ensures,
       refl,
     )
 
@@ -17,10 +17,10 @@ pub returns-in-Ok-true : goal.returns-in-Ok-true
 returns-in-Ok-true g c = λ head.
     let read = c.read_in_place-used in
     placed_fed c.args.self.now c.args.env.now c.args.position.now c.args.in_progress.now c.args.sum.now _ read.new.env read.new.position
-    read.new.in_progress c.add_all.new.self c.args.piece.now read.result.0
+    read.new.in_progress c.cover.new.sum c.args.piece.now read.result.0
     (tells_in_place c.args.env.now c.args.env.now read.new.env c.args.position.now c.args.position.now read.new.position c.args.in_progress.now
     read.new.in_progress c.args.piece.now read.result.0 read.result.1 read.ensures.reads c.in-Ok-true.field-0 c.in-Ok-true.is c.in-Ok-true.field-0-test)
-    (c.add_all.ensures ∙ ap (λ l. c.args.sum.now ++ l) c.split_at.ensures.front)
+    c.cover.ensures
     (ap (λ s. record c.args.self.now { section = s }) c.section_of-self.ensures) head
 
 pub returns-in-Err : goal.returns-in-Err
@@ -28,6 +28,6 @@ returns-in-Err g c = λ head.
     let read = c.read_in_place-used in (
       tells_stop c.args.env.now c.args.env.now read.new.env c.args.position.now c.args.position.now read.new.position c.args.in_progress.now
           read.new.in_progress c.args.piece.now read.result.0 read.result.1 read.ensures.reads c.in-Err.stop c.in-Err.is,
-      c.add_all.ensures ∙ ap (λ l. c.args.sum.now ++ l) c.split_at.ensures.front,
+      c.cover.ensures,
       refl,
     )
