@@ -1,7 +1,7 @@
 //! The bytes of a record, written into a slice from a place on (FIT protocol, "Record Header", "Definition Message", "Data Message").
 //! Each function returns the place after what it wrote. A number is written with the bytes after it, so that
 //! it takes one store of a fixed size: there is always room for eight bytes more.
-ghost use Rattle.std.specs.Prelude.{◌≡◌, ◌⊎◌, ◌<◌, ◌≤◌, ◌+◌, ◌^◌, ◌++◌, ◌∷◌, [], flat_map, length, take};
+ghost use Rattle.std.specs.Prelude.{◌≡◌, ◌⊎◌, ◌<◌, ◌≤◌, ◌+◌, ◌^◌, ◌++◌, ◌∷◌, [], ℕ, List, flat_map, length, take};
 ghost use Rattle.std.specs.List.{AllByRecursion};
 ghost use Rattle.fit_base.specs.Fields.{items_bytes};
 ghost use Rattle.fit_base.specs.Numbers.{little_bytes, number_bytes};
@@ -160,31 +160,41 @@ fn place_values<A: Allocator>(bytes: &mut [u8], at: usize, order: Order, v: &Val
     place_lists(bytes, at, order, v.dev.as_slice())
 }
 
-/// Writes the entries of fields.
-fn place_fields(bytes: &mut [u8], at: usize, fields: &[FieldDef]) -> usize
-    requires { at + length (flat_map field_bytes fields.now) ≤ length bytes.old }
-    ensures size { length bytes.new ≡ length bytes.old }
-    ensures end { result ≡ at + length (flat_map field_bytes fields.now) }
-    ensures text { take result bytes.new ≡ take at bytes.old ++ flat_map field_bytes fields.now }
-{
-    let mut at = at;
-    for f in fields {
-        at = place_bytes(bytes, at, &[f.number, f.size, f.code]);
-    }
-    at
+/// The entry of a field, or of a developer field, in a definition message.
+trait Entry {
+    // Its bytes.
+    ghost spelled: { Self → List ℕ };
+
+    fn three_bytes(&self) -> [u8; 3]
+        ensures { result ≡ spelled self.now };
 }
 
-/// Writes the entries of developer fields.
-fn place_dev_fields(bytes: &mut [u8], at: usize, fields: &[DevDef]) -> usize
-    requires { at + length (flat_map dev_field_bytes fields.now) ≤ length bytes.old }
+impl Entry for FieldDef {
+    ghost spelled = { field_bytes };
+
+    fn three_bytes(&self) -> [u8; 3] {
+        [self.number, self.size, self.code]
+    }
+}
+
+impl Entry for DevDef {
+    ghost spelled = { dev_field_bytes };
+
+    fn three_bytes(&self) -> [u8; 3] {
+        [self.number, self.size, self.index]
+    }
+}
+
+/// Writes the entries of fields or of developer fields.
+fn place_entries<E: Entry>(bytes: &mut [u8], at: usize, fields: &[E]) -> usize
+    requires { at + length (flat_map E.spelled fields.now) ≤ length bytes.old }
     ensures size { length bytes.new ≡ length bytes.old }
-    ensures end { result ≡ at + length (flat_map dev_field_bytes fields.now) }
-    ensures text { take result bytes.new
-        ≡ take at bytes.old ++ flat_map dev_field_bytes fields.now }
+    ensures end { result ≡ at + length (flat_map E.spelled fields.now) }
+    ensures text { take result bytes.new ≡ take at bytes.old ++ flat_map E.spelled fields.now }
 {
     let mut at = at;
     for f in fields {
-        at = place_bytes(bytes, at, &[f.number, f.size, f.index]);
+        at = place_bytes(bytes, at, &f.three_bytes());
     }
     at
 }
@@ -205,7 +215,7 @@ fn place_dev_part<A: Allocator>(
         None => at,
         Some(fields) => {
             let at = place_bytes(bytes, at, &[fields.len() as u8]);
-            place_dev_fields(bytes, at, fields.as_slice())
+            place_entries(bytes, at, fields.as_slice())
         }
     }
 }
@@ -220,7 +230,7 @@ fn place_definition<A: Allocator>(bytes: &mut [u8], at: usize, d: &MessageDef<A>
         ≡ take at bytes.old ++ definition_header d.now ∷ definition_bytes d.now }
 {
     let at = place_bytes(bytes, at, &definition_head(d));
-    let at = place_fields(bytes, at, d.fields.as_slice());
+    let at = place_entries(bytes, at, d.fields.as_slice());
     place_dev_part(bytes, at, &d.dev)
 }
 

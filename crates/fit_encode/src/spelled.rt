@@ -60,8 +60,8 @@ impl SpelledRecords {
         }
     }
 
-    /// Lets all records go, and keeps their memory for others. Returns what they were.
-    pub(crate) fn let_go(&mut self) -> History<Record>
+    /// Takes all records out, and keeps their memory for others. Returns what they were.
+    pub(crate) fn take_all(&mut self) -> History<Record>
         ensures past { result.items ≡ self.old }
         ensures left { self.new ≡ [] }
     {

@@ -152,14 +152,14 @@ fn put_next(
     ensures kept { OnErr result (records.new ≡ records.old) }
 {
     if let Some(fault) = fault {
-        return Ok((Some(fault), records.let_go()));
+        return Ok((Some(fault), records.take_all()));
     }
     match head_of(before, header, records) {
         Ok(head) => {
             let past = records.put_after(bytes, head.as_slice())?;
             Ok((None, past))
         }
-        Err(fault) => Ok((Some(fault), records.let_go())),
+        Err(fault) => Ok((Some(fault), records.take_all())),
     }
 }
 

@@ -86,7 +86,7 @@ impl Spelling {
     }
 
     /// Takes the run, which went out, into the checksum.
-    fn settle(&mut self)
+    fn sum_run(&mut self)
         requires { self.old.held ≡ [] }
         ensures { self.new ≡ record self.old { room = 4096 } }
     {
@@ -105,7 +105,7 @@ impl Spelling {
         ensures room { OnOk result (self.new.room ≡ 4096) }
     {
         self.send(sink)?;
-        self.settle();
+        self.sum_run();
         Ok(())
     }
 

@@ -1,4 +1,4 @@
-use Rattle.fit_encode.proofs.Common.{◌≡◌, ◌∙◌, ◌∷◌, ◌++◌, [], sym, ap, arith, empty_environment, learn_all, Data}
+use Rattle.fit_encode.proofs.Common.{◌∙◌, ◌∷◌, ◌++◌, [], sym, ap, arith, empty_environment, learn_all, Data}
 use Rattle.std.specs.Global.{Global}
 use Rattle.fit_record.specs.MessageBytes.{message_in}
 use Rattle.fit_encode.proofs.Kept.{MayFollow, kept-more, long-now, long-on}

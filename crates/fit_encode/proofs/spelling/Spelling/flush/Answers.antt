@@ -4,6 +4,6 @@ use Rattle.fit_encode.proofs.spelling.Spelling.flush.Goals as goal
 
 pub returns-clause-sends : goal.returns-clause-sends
 returns-clause-sends g c =
-    let same = c.settle.ensures in
-    Spells-held c.settle.new.self [] c.in_ok-send.ensures.sends (ap (λ (s : Sending). s.sent) same)
+    let same = c.sum_run.ensures in
+    Spells-held c.sum_run.new.self [] c.in_ok-send.ensures.sends (ap (λ (s : Sending). s.sent) same)
     (ap (λ (s : Sending). s.held) same ∙ sym (append-nil c.send.new.self.held)) (ap (λ (s : Sending). s.count) same)

@@ -1,6 +1,6 @@
 use Rattle.fit_encode.proofs.Common.{◌∙◌, sym, ap, arith, Sending}
 use Rattle.fit_encode.proofs.Runs.{all_gone, same_sending}
-use Rattle.fit_encode.proofs.spelling.Spelling.settle.Goals as goal
+use Rattle.fit_encode.proofs.spelling.Spelling.sum_run.Goals as goal
 
 pub returns : goal.returns
 returns c =

@@ -1,9 +1,0 @@
-use Rattle.fit_encode.proofs.Common.{◌≡◌, ◌++◌, length, take, flat_map, field_bytes}
-use Rattle.std.proofs.Common.{◌+◌}
-use Rattle.fit_encode.proofs.place.place_fields.Given as goal
-
-abbrev pub invariant-loop-f : goal.invariant-loop-f
-invariant-loop-f l = record {
-  end : l.at ≡ l.initial.at + length (flat_map field_bytes (take l.f-index l.fields));
-  text : take l.at l.bytes ≡ take l.initial.at l.initial.bytes ++ flat_map field_bytes (take l.f-index l.fields);
-}
