@@ -26,7 +26,7 @@ use Rattle.fit_profile.specs.Described.{Naming, namings_at}
 use Rattle.fit_profile.specs.Names.{message_name}
 use Rattle.fit_report.specs.Heard.{latest_records}
 use Rattle.fit_messages.specs.Blocks as blocks
-use Rattle.fit_messages.specs.Blocks.{Column, amounts, counts, entries, entry, event_block, front, gap, message_after, message_block, message_head, rounded}
+use Rattle.fit_messages.specs.Blocks.{Column, amounts, counts, entries, entry, front, gap, message_block, message_head, rounded}
 use Rattle.fit_messages.specs.Blocks.{begun_files, bytes_heard, columns, counts_bytes, definition_block, definitions_heard, end_block, header_block}
 use Rattle.fit_messages.specs.Blocks.{items_begin, kind_bytes, message_length, numbers_heard, scale_bytes, sized, slot, sum_kind, whole}
 unfoldable use Rattle.fit_messages.specs.Blocks.{low}

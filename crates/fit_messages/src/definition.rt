@@ -1,9 +1,7 @@
 //! The blocks of definitions.
-ghost use Rattle.std.specs.Prelude.{◌≡◌, ◌≤◌, ◌<◌, ◌+◌, ◌*◌, ◌++◌, ◌==◌, ◌&&◌, [], if◌then◌else◌, IfOk, OnOk, Some, length, map, option_map, sum_by, unwrap_or, zip};
-ghost use Rattle.std.specs.List.{list_any};
+ghost use Rattle.std.specs.Prelude.{◌≡◌, ◌≤◌, ◌<◌, ◌+◌, ◌*◌, ◌++◌, [], if◌then◌else◌, IfOk, OnOk, Some, length, map, option_map, sum_by, unwrap_or, zip};
 ghost use Rattle.fit_numbers.specs.Scaled.{IsScale};
 ghost use Rattle.fit_profile.specs.Described.{namings_at};
-ghost use Rattle.fit_profile.specs.Accumulated.{is_counter};
 ghost use Rattle.fit_profile.specs.Looks.{known};
 ghost use Rattle.fit_record.specs.Environment.{defined_at, dev_defs};
 ghost use Rattle.fit_record.specs.Records.{architecture};
@@ -13,7 +11,6 @@ ghost use Rattle.fit_messages.specs.inner.Columns.{dev_columns, said};
 
 use crate::bytes::{Front, Place, put_front, put_number, put_sized, put_text};
 use fit_base::{Class, Code, Entries, Order, width_of};
-use fit_profile::message_number::RECORD;
 use fit_profile::{Stream, decimals_of, field_info, message_name};
 use fit_record::{Defined, DevDef, FieldDef, MessageDef};
 use std::alloc::{AllocError, Global};
@@ -251,28 +248,12 @@ fn dev_slice(dev: &Option<Entries<DevDef>>) -> &[DevDef]
     }
 }
 
-/// Whether one of the fields has the number of a counter's field.
-fn have_counter(fields: &[FieldDef]) -> bool
-    ensures { result ≡ list_any (λ f. is_counter f.number) fields.now }
-{
-    fields
-        .iter()
-        .any(|f| f.number == 8 || f.number == 18 || f.number == 28)
-}
-
-/// Whether messages of this definition may tell speed, distance, cycles and power.
-pub(crate) fn counts(definition: &MessageDef) -> bool
-    ensures { result ≡ blocks.counts definition.now }
-{
-    definition.global == RECORD && have_counter(definition.fields.as_slice())
-}
-
-/// Where the items of its messages begin in their blocks.
-fn items_begin(definition: &MessageDef) -> u64
-    ensures place { result ≡ blocks.items_begin definition.now }
+/// Where the items of messages begin in their blocks, by whether they may tell speed, distance, cycles and power.
+fn items_begin(counts: bool) -> u64
+    ensures place { result ≡ 40 + (if counts then 32 else 0) }
     ensures small { result ≤ 72 }
 {
-    if counts(definition) { 72 } else { 40 }
+    if counts { 72 } else { 40 }
 }
 
 /// What a byte order is called in a block.
@@ -289,11 +270,13 @@ fn architecture(order: Order) -> u8
 fn put_head(
     bytes: &mut Vec<u8>,
     definition: &MessageDef,
+    counts: bool,
     place: Place,
     number: u64,
     length: u64,
 ) -> Result<(), AllocError>
-    requires { length ≡ blocks.message_length definition.now }
+    requires counts { counts ≡ blocks.counts definition.now }
+    requires length { length ≡ blocks.message_length definition.now }
     ensures { OnOk result (bytes.new.items
         ≡ bytes.old.items
         ++ blocks.definition_opening place.file place.place number definition.now) }
@@ -310,12 +293,18 @@ fn put_head(
             place: place.place,
         },
     )?;
-    put_counts(bytes, definition, number)?;
+    put_counts(bytes, definition, counts, number)?;
     put_text(bytes, message_name(definition.global).unwrap_or(""))
 }
 
 /// Puts which definition of all it is, of which message, and how many fields it has.
-fn put_counts(bytes: &mut Vec<u8>, definition: &MessageDef, number: u64) -> Result<(), AllocError>
+fn put_counts(
+    bytes: &mut Vec<u8>,
+    definition: &MessageDef,
+    counts: bool,
+    number: u64,
+) -> Result<(), AllocError>
+    requires { counts ≡ blocks.counts definition.now }
     ensures { OnOk result (bytes.new.items
         ≡ bytes.old.items ++ blocks.counts_bytes number definition.now) }
 {
@@ -323,16 +312,17 @@ fn put_counts(bytes: &mut Vec<u8>, definition: &MessageDef, number: u64) -> Resu
     put_number(bytes, 2, u64::from(definition.global))?;
     put_number(bytes, 2, definition.fields.len() as u64)?;
     put_number(bytes, 2, dev_slice(&definition.dev).len() as u64)?;
-    put_number(bytes, 2, parts(definition))
+    put_number(bytes, 2, parts(definition, counts))
 }
 
 /// Which parts the messages of a definition have besides their fields.
-fn parts(definition: &MessageDef) -> u64
+fn parts(definition: &MessageDef, counts: bool) -> u64
+    requires { counts ≡ blocks.counts definition.now }
     ensures { result ≡ blocks.flag 1 definition.now.dev
         + (if blocks.counts definition.now then 2 else 0) }
 {
     let dev = if definition.dev.is_some() { 1 } else { 0 };
-    let told = if counts(definition) { 2 } else { 0 };
+    let told = if counts { 2 } else { 0 };
     dev + told
 }
 
@@ -353,17 +343,18 @@ pub(crate) fn put_definition(
         (namings_at stream.now defined.now.definition.local)) }
 {
     let definition = &defined.definition;
-    let start = items_begin(definition);
+    let local = definition.local;
+    let counts = stream.may_count(local);
+    let start = items_begin(counts);
     let mut texts = Vec::new(alloc);
     let mut entries = Vec::new(alloc);
     let fields = definition.fields.as_slice();
     let middle = put_fields(&mut entries, &mut texts, start, definition.global, fields)?;
-    let local = definition.local;
     let dev = dev_slice(&definition.dev);
     let codes = defined.dev_codes.as_slice();
     let end = put_devs(&mut entries, &mut texts, middle, stream, local, dev, codes)?;
     let mut rest = Vec::new(alloc);
-    put_head(&mut rest, definition, place, number, end)?;
+    put_head(&mut rest, definition, counts, place, number, end)?;
     rest.extend_from_slice(entries.as_slice())?;
     put_sized(text, rest.as_slice())
 }

@@ -223,7 +223,8 @@ pub(crate) fn put_message(
 ) -> Result<(), AllocError>
     requires head { TellsTimesAlone head }
     requires defined { (p : Defined Global)
-        × (defined_at (known stream.now) head.local ≡ Some p) × (message_size p ≤ length bytes.now) }
+        × (defined_at (known stream.now) head.local ≡ Some p)
+        × (message_size p ≤ length bytes.now) }
     requires quick { quick ≡ true → (p : Defined Global)
         → defined_at (known stream.now) head.local ≡ Some p → IsQuick p bytes.now }
     ensures { OnOk result ((p : Defined Global)

@@ -129,7 +129,8 @@ pub fn value_in<A: Allocator>(
     field: &FieldDef,
     items: &Items<A>,
 ) -> Option<Fixed>
-    ensures value { IsValueOf (option_and_then (λ raw. option_map (λ m. (raw, m)) (names.field global number))
+    ensures value { IsValueOf (option_and_then
+        (λ raw. option_map (λ m. (raw, m)) (names.field global number))
         (values.first_number field.now items.now)) result }
     ensures few { IfSome result (λ v. v.decimals ≤ 8) }
 {

@@ -23,16 +23,14 @@ some_or_none None = inr refl
 some_or_none (Some x) = inl refl
 
 -- what is said of the message in its bytes
-pub said_of_it : (e : Environment Global) (last : Last) (m : MessageBytes Global) (t : Told) (s : Taken) → defined_at e m.local ≡ Some m.defined.now
-    → t ≡ told_at last m.defined.now.definition (message_in m) → IsTaken t (message_in m) m.defined.now.definition s
+pub said_of_it : (e : Environment Global) (last : Last) (m : MessageBytes Global) (s : Taken) → defined_at e m.local ≡ Some m.defined.now
+    → IsTaken (told_at last m.defined.now.definition (message_in m)) (message_in m) m.defined.now.definition s
     → (v : Values Global) (p : Defined Global) → message_in m ≡ v → defined_at e v.local ≡ Some p → IsTaken (told_at last p.definition v) v p.definition s
-said_of_it e last m t s here tells is v p same known_ =
-    let w = message_in m in
+said_of_it e last m s here is v p same known_ =
     let d = m.defined.now.definition in
     let one : m.defined.now ≡ p = same_Some m.defined.now p (sym here ∙ ap (λ (x : Values Global). defined_at e x.local) same ∙ known_) in
-    let first : IsTaken (told_at last d w) w d s = subst (λ x. IsTaken x w d s) tells is in
-    let second : IsTaken (told_at last d v) v d s = subst (λ x. IsTaken (told_at last d x) x d s) same first in
-    subst (λ (q : Defined Global). IsTaken (told_at last q.definition v) v q.definition s) one second
+    let all : IsTaken (told_at last d v) v d s = subst (λ x. IsTaken (told_at last d x) x d s) same is in
+    subst (λ (q : Defined Global). IsTaken (told_at last q.definition v) v q.definition s) one all
 
 -- the same by the records of which the last ones are kept
 pub said_now : {e : Environment Global} {l : Last} {n : Names Global} {xs : List (Record Global)} (now : List (Record Global)) (v : Values Global)

@@ -1,5 +1,6 @@
 pub use Rattle.fit_names.specs.Profile
 pub use Rattle.fit_names.specs.Names
+pub use Rattle.fit_names.specs.Values
 pub mod Laws
 pub mod Least
 pub mod Looks
@@ -7,7 +8,7 @@ pub mod Times
 pub mod Accumulated
 pub mod Told
 pub mod Described
-pub mod Values
+pub mod KnownNumber
 pub mod Meant
 pub mod Taken
 pub mod inner

@@ -1,15 +1,12 @@
 //! Accumulated values of record messages.
-ghost use Rattle.std.specs.Prelude.{◌≡◌, ◌≤◌, ◌<◌, ◌^◌, ◌==◌, ◌&&◌, length, IfSome};
-ghost use Rattle.std.specs.List.{list_any};
+ghost use Rattle.std.specs.Prelude.{◌≡◌, ◌≤◌, ◌<◌, ◌^◌, length, IfSome};
 ghost use Rattle.fit_base.specs.Numbers as numbers;
 ghost use Rattle.fit_profile.specs.Accumulated.{number_in, number_of};
-ghost use Rattle.fit_profile.specs.Accumulated.{is_counter};
 ghost use Rattle.fit_profile.specs.inner.Places.{AreFieldPlaces};
 
-use crate::look::first_of;
 use crate::places::first_at;
 use fit_base::Items;
-use fit_record::{FieldDef, MessageDef, Values};
+use fit_record::{MessageDef, Values};
 use std::alloc::Allocator;
 
 /// A field whose items hold a counter.
@@ -61,28 +58,6 @@ fn number_at<A: Allocator>(c: Component, items: &Items<A>) -> Option<u64>
     }
 }
 
-/// The number of a component in a message.
-pub(crate) fn number<A: Allocator>(
-    c: Component,
-    definition: &MessageDef<A>,
-    values: &Values<A>,
-) -> Option<u64>
-    requires items { c.items ≤ 3 }
-    requires skipped { c.skipped ≤ 2 ^ 24 }
-    ensures small { IfSome result (λ n. n < 2 ^ 24) }
-    ensures number { result ≡ number_of c definition.now values.now }
-{
-    if definition.global != 20 {
-        return None;
-    }
-    let (_, items) = first_of(
-        definition.fields.as_slice(),
-        values.fields.as_slice(),
-        c.field,
-    )?;
-    number_at(c, items)
-}
-
 /// The number of a component in a message, by the places of the fields.
 #[inline(always)]
 pub(crate) fn number_by<A: Allocator>(
@@ -107,21 +82,4 @@ pub(crate) fn number_by<A: Allocator>(
         c.field,
     )?;
     number_at(c, items)
-}
-
-/// Whether one of the fields has the number of a component's field.
-fn have_counter(fields: &[FieldDef]) -> bool
-    ensures { result ≡ list_any (λ f. is_counter f.number) fields.now }
-{
-    fields
-        .iter()
-        .any(|f| f.number == 8 || f.number == 18 || f.number == 28)
-}
-
-/// Whether messages of this definition may have accumulated values. Most have none.
-pub(crate) fn may_count<A: Allocator>(definition: &MessageDef<A>) -> bool
-    ensures { result ≡ (definition.now.global == 20
-        && list_any (λ f. is_counter f.number) definition.now.fields) }
-{
-    definition.global == 20 && have_counter(definition.fields.as_slice())
 }

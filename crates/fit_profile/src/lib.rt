@@ -2,6 +2,7 @@
 //! developer fields. What the profile says without records is of `fit_names`, and is passed on here.
 #![tactic(auto)]
 
+mod by_plan;
 mod component;
 mod counter_places;
 pub mod laws;
@@ -12,7 +13,6 @@ mod message;
 mod message_bytes;
 mod names;
 mod places;
-mod plain;
 mod plan;
 mod stream;
 mod text;

@@ -39,7 +39,7 @@ impl<'a, A: Allocator> Message<'a, A> {
     ghost use Rattle.fit_profile.specs.Looks.{first_field};
     ghost use Rattle.fit_profile.specs.Meant.{shown, part_of, first_part, field_at, dev_field_at};
     ghost use Rattle.fit_names.specs.Values.{IsAmount, IsValueOf};
-    ghost use Rattle.fit_profile.specs.Values.{known_number};
+    ghost use Rattle.fit_profile.specs.KnownNumber.{known_number};
 
     /// The global message number.
     pub fn global(&self) -> u16

@@ -1,6 +1,5 @@
 //! Data messages that a stream takes in by their bytes.
-ghost use Rattle.std.specs.Prelude.{◌≡◌, ◌==◌, ◌&&◌, ◌++◌, ◌∷◌, [], length, true, false, IfOk, IfSome, IsSome, IsSomeAnd, None, Some, slice_index_or};
-ghost use Rattle.std.specs.List.{list_any};
+ghost use Rattle.std.specs.Prelude.{◌≡◌, ◌==◌, ◌++◌, ◌∷◌, [], Bool, List, Option, length, true, IfOk, IfSome, IsSome, IsSomeAnd, None, Some, slice_index_or};
 ghost use Rattle.std.specs.declared.alloc.Global.{Global};
 ghost use Rattle.fit_record.specs.Environment.{defined_at, described_by};
 ghost use Rattle.fit_record.specs.Faults.{or_else};
@@ -10,13 +9,12 @@ ghost use Rattle.fit_record.specs.Sound.{IsSound};
 ghost use Rattle.fit_record.specs.declared.environment.Defined.{Defined};
 ghost use Rattle.fit_record.specs.declared.message.Record.TheVariants.{Values as Data};
 ghost use Rattle.fit_record.specs.declared.message.Values.{Values};
-ghost use Rattle.fit_profile.specs.Accumulated.{is_counter};
 ghost use Rattle.fit_profile.specs.Taken.{IsTaken, has_lone_fields};
 ghost use Rattle.fit_profile.specs.Times as times;
 ghost use Rattle.fit_profile.specs.Told as telling;
 ghost use Rattle.fit_profile.specs.inner.Plans.{ArePlanned, IsPlan, IsPlanned};
 
-use crate::plan::{Plan, Plans};
+use crate::plan::{Plan, Plans, has_lone_fields};
 use crate::time::header_time;
 use crate::told::{
     DISTANCE, Last, Told, accumulated, counted, last_after, speed, uncounted, with_time,
@@ -87,22 +85,6 @@ fn counted_of_message(last: Last, plan: &Plan, message: &MessageBytes<'_>) -> To
     counted(last, time, header_time, distance, cycles, power)
 }
 
-/// What is told of a message by the last ones before it. Most have no counters.
-fn told_of_message(last: Last, plan: &Plan, message: &MessageBytes<'_>) -> Told
-    requires plan { IsPlan plan.now message.now.defined.now.definition }
-    requires size { length message.now.body.now ≡ message_size message.now.defined.now }
-    ensures { result ≡ telling.told_at last message.now.defined.now.definition
-        (message_in message.now) }
-{
-    if plan.tells_more {
-        return counted_of_message(last, plan, message);
-    }
-    uncounted(
-        time_of_message(last.time, plan, message),
-        header_time(last.time, message.offset),
-    )
-}
-
 /// The plan of the definition of a message.
 #[inline(always)]
 fn plan_of<'a>(plans: &'a Plans, message: &MessageBytes<'_>) -> &'a Plan
@@ -127,23 +109,6 @@ pub(crate) fn time_in(env: &Env, plans: &Plans, previous: Option<u32>, bytes: &[
     time_of_message(previous, plan_of(plans, &message), &message)
 }
 
-/// What a stream says of a message of which this is told.
-#[inline(always)]
-fn said_of(message: &MessageBytes<'_>, may_count: bool, lone: bool, told: Told) -> Taken
-    requires counts { may_count ≡ (message.now.defined.now.definition.global == 20
-        && list_any (λ f. is_counter f.number) message.now.defined.now.definition.fields) }
-    requires lone { lone ≡ has_lone_fields message.now.defined.now.definition }
-    ensures { IsTaken told (message_in message.now) message.now.defined.now.definition result }
-{
-    Taken {
-        local: message.local,
-        offset: message.offset,
-        may_count,
-        has_lone_fields: lone,
-        told,
-    }
-}
-
 /// What a stream says of the data message that the bytes are, by the last ones before it.
 pub(crate) fn said_in(env: &Env, plans: &Plans, last: Last, bytes: &[u8]) -> Taken
     requires plans { ArePlanned plans.now.places.items env.now.places }
@@ -154,8 +119,11 @@ pub(crate) fn said_in(env: &Env, plans: &Plans, last: Last, bytes: &[u8]) -> Tak
 {
     let message = message_of(env, bytes);
     let plan = plan_of(plans, &message);
-    let told = told_of_message(last, plan, &message);
-    said_of(&message, plan.may_count(), plan.has_lone_fields, told)
+    let mut last = last;
+    let mut taken = say_next(&mut last, plan, &message);
+    let lone = has_lone_fields(&message.defined.definition);
+    taken.has_lone_fields = lone;
+    taken
 }
 
 /// The speed and the accumulated distance of the data message that the bytes are, by the last ones before it.
@@ -183,60 +151,6 @@ fn add_message(records: &mut History<Record>, message: &MessageBytes<'_>)
     records.add_from(message);
 }
 
-/// Changes the last ones to those after a message, where it is no field description. Whether it did.
-#[inline(always)]
-fn note_plain(last: &mut Last, plan: &Plan, message: &MessageBytes<'_>) -> bool
-    requires plan { IsPlan plan.now message.now.defined.now.definition }
-    requires size { length message.now.body.now ≡ message_size message.now.defined.now }
-    ensures last { result ≡ true → last.new ≡ telling.last_after last.old (Some
-        (telling.told_at last.old message.now.defined.now.definition (message_in message.now))) }
-    ensures plain { result ≡ true
-        → (message.now.defined.now.definition.global == 206) ≡ false }
-    ensures kept { result ≡ false → last.new ≡ last.old }
-    ensures describes { result ≡ false
-        → (message.now.defined.now.definition.global == 206) ≡ true }
-{
-    if !plan.tells_more {
-        *last = with_time(*last, time_of_message(last.time, plan, message));
-        return true;
-    }
-    if plan.describes {
-        return false;
-    }
-    *last = last_after(*last, Some(counted_of_message(*last, plan, message)));
-    true
-}
-
-/// Takes in the data message that the bytes are, where it is no field description. Whether it did.
-pub(crate) fn take_plain(
-    env: &Env,
-    plans: &Plans,
-    last: &mut Last,
-    records: &mut History<Record>,
-    bytes: &[u8],
-) -> bool
-    requires plans { ArePlanned plans.now.places.items env.now.places }
-    requires message { (v : Values Global) × IsRecord env.now (Data v) bytes.now }
-    ensures last { result ≡ true → (v : Values Global) → IsRecord env.now (Data v) bytes.now
-        → last.new ≡ telling.last_after last.old (telling.tell env.now last.old (Data v)) }
-    ensures records { result ≡ true → (v : Values Global) → IsRecord env.now (Data v) bytes.now
-        → records.new.items ≡ records.old.items ++ Data v ∷ [] }
-    ensures nothing { result ≡ true → (v : Values Global) → IsRecord env.now (Data v) bytes.now
-        → described_by env.now v ≡ None }
-    ensures last_kept { result ≡ false → last.new ≡ last.old }
-    ensures records_kept { result ≡ false → records.new.items ≡ records.old.items }
-    ensures describes { result ≡ false → (v : Values Global) → IsRecord env.now (Data v) bytes.now
-        → IsSomeAnd (defined_at env.now v.local) (λ p. (p.definition.global == 206) ≡ true) }
-{
-    let message = message_of(env, bytes);
-    let plan = plan_of(plans, &message);
-    if note_plain(last, plan, &message) {
-        add_message(records, &message);
-        return true;
-    }
-    false
-}
-
 /// Changes the last ones to those after a message, and says what is told of it. Most have no counters.
 #[inline(always)]
 fn tell_next(last: &mut Last, plan: &Plan, message: &MessageBytes<'_>) -> Told
@@ -258,21 +172,71 @@ fn tell_next(last: &mut Last, plan: &Plan, message: &MessageBytes<'_>) -> Told
     uncounted(time, header_time)
 }
 
+/// Changes the last ones to those after a message, and returns what a stream says of it but for `has_lone_fields`, which is false.
+#[inline(always)]
+fn say_next(last: &mut Last, plan: &Plan, message: &MessageBytes<'_>) -> Taken
+    requires plan { IsPlan plan.now message.now.defined.now.definition }
+    requires size { length message.now.body.now ≡ message_size message.now.defined.now }
+    ensures said { (lone : Bool) → lone ≡ has_lone_fields message.now.defined.now.definition
+        → IsTaken
+        (telling.told_at last.old message.now.defined.now.definition (message_in message.now))
+        (message_in message.now) message.now.defined.now.definition
+        (record result { has_lone_fields = lone }) }
+    ensures last { last.new ≡ telling.last_after last.old (Some
+        (telling.told_at last.old message.now.defined.now.definition (message_in message.now))) }
+{
+    let told = tell_next(last, plan, message);
+    Taken {
+        local: message.local,
+        offset: message.offset,
+        may_count: plan.may_count(),
+        has_lone_fields: false,
+        told,
+    }
+}
+
+/// Whether each field of a message is one number, which is known or found out now. False where nothing asks for it.
+#[inline(always)]
+fn lone_fields(
+    asks: bool,
+    known: Option<bool>,
+    plans: &mut Plans,
+    message: &MessageBytes<'_>,
+) -> bool
+    requires { IfSome known (λ lone. lone
+        ≡ has_lone_fields message.now.defined.now.definition) }
+    ensures lone { asks ≡ true
+        → result ≡ has_lone_fields message.now.defined.now.definition }
+    ensures plans { (places : List (Option (Defined Global)))
+        → slice_index_or places message.now.local None ≡ Some message.now.defined.now
+        → ArePlanned plans.old.places.items places → ArePlanned plans.new.places.items places }
+{
+    if !asks {
+        return false;
+    }
+    match known {
+        Some(lone) => lone,
+        None => plans.find_lone(message.local, message.defined),
+    }
+}
+
 /// Takes in the data message that the bytes are, and says what is told of it, where it is no field description. None of a field
-/// description, which is left.
+/// description, which is left. Whether each field is one number is said where the caller asks for it.
 #[inline(always)]
 pub(crate) fn take_telling(
     env: &Env,
-    plans: &Plans,
+    plans: &mut Plans,
     last: &mut Last,
     records: &mut History<Record>,
+    asks: bool,
     bytes: &[u8],
 ) -> Option<Taken>
-    requires plans { ArePlanned plans.now.places.items env.now.places }
+    requires plans { ArePlanned plans.old.places.items env.now.places }
     requires message { (v : Values Global) × IsRecord env.now (Data v) bytes.now }
-    ensures said { IfSome result (λ t. (v : Values Global) (p : Defined Global)
+    ensures said { asks ≡ true → IfSome result (λ t. (v : Values Global) (p : Defined Global)
         → IsRecord env.now (Data v) bytes.now → defined_at env.now v.local ≡ Some p
         → IsTaken (telling.told_at last.old p.definition v) v p.definition t) }
+    ensures plans { ArePlanned plans.new.places.items env.now.places }
     ensures last { IsSome result → (v : Values Global) → IsRecord env.now (Data v) bytes.now
         → last.new ≡ telling.last_after last.old (telling.tell env.now last.old (Data v)) }
     ensures records { IsSome result → (v : Values Global) → IsRecord env.now (Data v) bytes.now
@@ -289,11 +253,12 @@ pub(crate) fn take_telling(
     if plan.describes {
         return None;
     }
-    let may_count = plan.may_count();
-    let lone = plan.has_lone_fields;
-    let told = tell_next(last, plan, &message);
+    let known = plan.has_lone_fields;
+    let mut taken = say_next(last, plan, &message);
     add_message(records, &message);
-    Some(said_of(&message, may_count, lone, told))
+    let lone = lone_fields(asks, known, plans, &message);
+    taken.has_lone_fields = lone;
+    Some(taken)
 }
 
 /// The record that the bytes of a data message are.

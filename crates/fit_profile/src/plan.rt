@@ -1,11 +1,13 @@
 //! What is found out once of a definition, so that a stream takes in its data messages quickly, as records or by their bytes.
-ghost use Rattle.std.specs.Prelude.{◌≡◌, ◌==◌, ◌&&◌, ◌≤◌, ◌<◌, ◌+◌, ℕ, List, IfSome, IsOk, OnOk, length, None, option_copied, slice_index_or, slice_set, Some, not};
-ghost use Rattle.std.specs.List.{list_all, list_any};
+ghost use Rattle.std.specs.Prelude.{◌≡◌, ◌==◌, ◌&&◌, ◌≤◌, ◌<◌, ◌+◌, ℕ, List, Option, IfSome, IsOk, OnOk, length, None, option_copied, slice_index_or, slice_set, Some, not};
+ghost use Rattle.std.specs.List.{list_any};
 ghost use Rattle.fit_base.specs.BaseTypes.{base_type};
 ghost use Rattle.fit_base.specs.declared.number.Order.{Order};
 ghost use Rattle.fit_record.specs.Environment.{DescribesNothing, Environment, learn};
 ghost use Rattle.fit_record.specs.Records.{Fits, sizes};
+ghost use Rattle.fit_record.specs.declared.environment.Defined.{Defined};
 ghost use Rattle.fit_profile.specs.Accumulated.{is_counter, tells_more};
+ghost use Rattle.fit_profile.specs.Taken.{has_lone_fields};
 ghost use Rattle.fit_profile.specs.inner.InBytes.{slots};
 ghost use Rattle.fit_profile.specs.inner.Places.{AreFieldPlaces};
 ghost use Rattle.fit_profile.specs.inner.Plans as plans;
@@ -18,7 +20,7 @@ use crate::time::valid_time;
 use fit_base::base_type::UINT32;
 use fit_base::{Code, Order, bits_at};
 use fit_names::field_number::TIMESTAMP;
-use fit_record::{FIELD_DESCRIPTION, FieldDef, MessageDef, Record};
+use fit_record::{Defined, FIELD_DESCRIPTION, FieldDef, MessageDef, Record};
 use std::alloc::{AllocError, Global};
 
 /// How the data messages of a definition are taken in.
@@ -28,8 +30,8 @@ pub(crate) struct Plan {
     pub tells_more: bool,
     /// They are field descriptions.
     pub describes: bool,
-    /// Each of their fields is one number.
-    pub has_lone_fields: bool,
+    /// Each of their fields is one number. None where nothing has asked for it.
+    pub has_lone_fields: Option<bool>,
     /// Where the four bytes of their timestamp begin in those of their fields.
     pub time_place: Option<u16>,
     /// Where their counters do.
@@ -78,10 +80,11 @@ fn is_lone(field: &FieldDef) -> bool
     Code(field.code).width() == field.size
 }
 
-/// Whether each of these fields is.
-fn are_lone(fields: &[FieldDef]) -> bool
-    ensures { result ≡ list_all (λ f. (base_type f.code).width == f.size) fields.now }
+/// Whether each field of a definition is.
+pub(crate) fn has_lone_fields(definition: &MessageDef) -> bool
+    ensures { result ≡ has_lone_fields definition.now }
 {
+    let fields = definition.fields.as_slice();
     fields.iter().all(|field| is_lone(field))
 }
 
@@ -97,7 +100,7 @@ impl Plan {
         Plan {
             tells_more: tells_more(definition, may_count),
             describes: definition.global == FIELD_DESCRIPTION,
-            has_lone_fields: are_lone(fields),
+            has_lone_fields: None,
             time_place: time_place(fields, &places),
             counters: CounterPlaces::of(definition, may_count),
             places,
@@ -179,6 +182,25 @@ impl Plans {
         ensures { self.new.places.items ≡ slice_set self.old.places.items local (Some plan) }
     {
         self.places[local as usize] = Some(plan);
+    }
+
+    /// Finds out whether each field of the definition of a local message type is one number, and keeps it in the plan.
+    #[cold]
+    #[inline(never)]
+    pub fn find_lone(&mut self, local: u8, defined: &Defined) -> bool
+        ensures lone { result ≡ has_lone_fields defined.now.definition }
+        ensures plans { (places : List (Option (Defined Global)))
+            → slice_index_or places local None ≡ Some defined.now
+            → ArePlanned self.old.places.items places → ArePlanned self.new.places.items places }
+    {
+        let lone = has_lone_fields(&defined.definition);
+        let Some(plan) = self.at(local) else {
+            return lone;
+        };
+        let mut plan = *plan;
+        plan.has_lone_fields = Some(lone);
+        self.put(local, plan);
+        lone
     }
 
     /// Takes memory for a record that will be taken in. No plan changes, and a data message takes none.

@@ -20,13 +20,13 @@ ghost use Rattle.fit_profile.specs.contracts.stream.Stream.{the_row};
 
 mod next;
 
+use crate::by_plan::{is_plain, tell, tell_times};
 use crate::learn::take_in;
 use crate::message::Message;
-use crate::message_bytes::{Taken, record_of, said_in, take_plain, take_telling};
+use crate::message_bytes::{Taken, record_of, said_in, take_telling};
 use crate::names::Names;
-use crate::plain::{tell_plain, tell_times};
 use crate::plan::Plans;
-use crate::told::{Last, Told, last_after, last_after_record, tell, uncounted, with_time};
+use crate::told::{Last, Told, last_after, uncounted, with_time};
 use fit_history::History;
 use fit_record::{Env, Record, Values};
 use std::alloc::{AllocError, Global};
@@ -127,20 +127,6 @@ impl Stream {
         Ok(())
     }
 
-    /// Takes in a data message that describes no developer field, and tells its times and accumulated
-    /// values. Any other record is left, and None is told.
-    fn note_plain(&mut self, record_: &Record) -> Option<Told>
-        requires { Fits (known self.old) record_.now }
-        ensures taken { IsSome result → self.new ≡ record_.now ∷ self.old }
-        ensures told { IfSome result (λ t. Some t ≡ told_of self.old record_.now) }
-        ensures kept { result ≡ None → self.new ≡ self.old }
-    {
-        let told = tell_plain(&self.env, &self.plans, self.last, record_)?;
-        self.last = last_after(self.last, Some(told));
-        self.pushed.add(record_);
-        Some(told)
-    }
-
     /// Takes in a data message of which nothing but times is told, and tells them: its own, and that of its header. Any other record is
     /// left, and None is told.
     #[inline(always)]
@@ -157,20 +143,6 @@ impl Stream {
         Some((time, header_time))
     }
 
-    /// Takes any record in, and tells its times and accumulated values.
-    fn note_other(&mut self, record_: &Record) -> Result<Option<Told>, AllocError>
-        requires { Fits (known self.old) record_.now }
-        ensures ok { OnOk result (self.new ≡ record_.now ∷ self.old) }
-        ensures err { OnErr result (self.new ≡ self.old) }
-        ensures told { IfOk result (λ t. t ≡ told_of self.old record_.now) }
-        ensures free { DescribesNothing (known self.old) record_.now → IsOk result }
-    {
-        let told = tell(&self.env, self.last, record_);
-        let last = last_after(self.last, told);
-        self.advance(record_, last)?;
-        Ok(told)
-    }
-
     /// Takes a record in, and tells its times and accumulated values. Most records describe nothing.
     fn note(&mut self, record_: &Record) -> Result<Option<Told>, AllocError>
         requires { Fits (known self.old) record_.now }
@@ -179,10 +151,15 @@ impl Stream {
         ensures told { IfOk result (λ t. t ≡ told_of self.old record_.now) }
         ensures free { DescribesNothing (known self.old) record_.now → IsOk result }
     {
-        match self.note_plain(record_) {
-            Some(told) => Ok(Some(told)),
-            None => self.note_other(record_),
+        let told = tell(&self.env, &self.plans, self.last, record_);
+        let last = last_after(self.last, told);
+        if is_plain(&self.plans, record_) {
+            self.last = last;
+            self.pushed.add(record_);
+            return Ok(told);
         }
+        self.advance(record_, last)?;
+        Ok(told)
     }
 
     /// Takes the next record. A definition gives None, a data message what it means, given the records
@@ -216,17 +193,6 @@ impl Stream {
         Ok(self.message(told, record_))
     }
 
-    /// Takes any record in, and tells nothing.
-    fn take_other(&mut self, record_: &Record) -> Result<(), AllocError>
-        requires { Fits (known self.old) record_.now }
-        ensures ok { OnOk result (self.new ≡ record_.now ∷ self.old) }
-        ensures err { OnErr result (self.new ≡ self.old) }
-        ensures free { DescribesNothing (known self.old) record_.now → IsOk result }
-    {
-        let last = last_after_record(&self.env, self.last, record_);
-        self.advance(record_, last)
-    }
-
     /// Takes the next record in, as `push` does, and makes no message of it.
     pub fn take(&mut self, record_: &Record) -> Result<(), AllocError>
         requires { Fits (known self.old) record_.now }
@@ -234,29 +200,8 @@ impl Stream {
         ensures err { OnErr result (self.new ≡ self.old) }
         ensures free { DescribesNothing (known self.old) record_.now → IsOk result }
     {
-        match self.note_plain(record_) {
-            Some(_) => Ok(()),
-            None => self.take_other(record_),
-        }
-    }
-
-    /// Takes in the data message that these bytes are, where it is no field description. Whether it did.
-    fn take_plain(&mut self, bytes: &[u8]) -> bool
-        requires { (v : Values Global) × IsRecord (known self.old) (Data v) bytes.now }
-        ensures taken { result ≡ true → (v : Values Global)
-            → IsRecord (known self.old) (Data v) bytes.now → self.new ≡ Data v ∷ self.old }
-        ensures kept { result ≡ false → self.new ≡ self.old }
-        ensures more { result ≡ false → (v : Values Global)
-            → IsRecord (known self.old) (Data v) bytes.now
-            → IsSomeAnd (defined_at (known self.old) v.local) (λ p. tells_more p.definition ≡ true) }
-    {
-        take_plain(
-            &self.env,
-            &self.plans,
-            &mut self.last,
-            &mut self.pushed,
-            bytes,
-        )
+        self.note(record_)?;
+        Ok(())
     }
 
     /// Takes a data message in by a record of it. It stands apart, since most messages need none.
@@ -285,18 +230,18 @@ impl Stream {
             → defined_at (known self.old) v.local ≡ Some p → tells_more p.definition ≡ false
             → IsOk result }
     {
-        if self.take_plain(bytes) {
-            return Ok(());
+        match self.take_telling(false, bytes) {
+            Some(_) => Ok(()),
+            None => self.take_record_of(bytes),
         }
-        self.take_record_of(bytes)
     }
 
     /// Takes in the data message that these bytes are, and says what is told of it, where it is no field description. None of a field
-    /// description, which is left.
+    /// description, which is left. Whether each field is one number is said where the caller asks for it.
     #[inline(always)]
-    fn take_telling(&mut self, bytes: &[u8]) -> Option<Taken>
+    fn take_telling(&mut self, asks: bool, bytes: &[u8]) -> Option<Taken>
         requires { (v : Values Global) × IsRecord (known self.old) (Data v) bytes.now }
-        ensures said { IfSome result (λ t. (v : Values Global) (p : Defined Global)
+        ensures said { asks ≡ true → IfSome result (λ t. (v : Values Global) (p : Defined Global)
             → IsRecord (known self.old) (Data v) bytes.now
             → defined_at (known self.old) v.local ≡ Some p
             → IsTaken (telling.told self.old v) v p.definition t) }
@@ -305,13 +250,15 @@ impl Stream {
         ensures kept { result ≡ None → self.new ≡ self.old }
         ensures more { result ≡ None → (v : Values Global)
             → IsRecord (known self.old) (Data v) bytes.now
-            → IsSomeAnd (defined_at (known self.old) v.local) (λ p. tells_more p.definition ≡ true) }
+            → IsSomeAnd (defined_at (known self.old) v.local)
+            (λ p. tells_more p.definition ≡ true) }
     {
         take_telling(
             &self.env,
-            &self.plans,
+            &mut self.plans,
             &mut self.last,
             &mut self.pushed,
+            asks,
             bytes,
         )
     }
@@ -351,7 +298,7 @@ impl Stream {
             → defined_at (known self.old) v.local ≡ Some p → tells_more p.definition ≡ false
             → IsOk result }
     {
-        match self.take_telling(bytes) {
+        match self.take_telling(true, bytes) {
             Some(taken) => Ok(taken),
             // What that call writes has a place of its own, which is cleared only there.
             None => {

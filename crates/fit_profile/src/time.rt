@@ -5,7 +5,7 @@ ghost use Rattle.fit_profile.specs.Times as times;
 ghost use Rattle.fit_profile.specs.inner.Places.{AreFieldPlaces};
 
 use crate::least::steps_to;
-use crate::look::{first_of, only_item};
+use crate::look::only_item;
 use crate::places::first_at;
 use fit_base::Items;
 use fit_base::base_type::UINT32;
@@ -35,21 +35,6 @@ fn time_in_field<A: Allocator>(field: &FieldDef, items: &Items<A>) -> Option<u32
         return None;
     }
     valid_time(only_item(items.bits.as_slice())?)
-}
-
-/// The timestamp of a message.
-pub(crate) fn field_time<A: Allocator>(
-    definition: &MessageDef<A>,
-    values: &Values<A>,
-) -> Option<u32>
-    ensures { result ≡ times.field_time definition.now values.now }
-{
-    let (field, items) = first_of(
-        definition.fields.as_slice(),
-        values.fields.as_slice(),
-        TIMESTAMP,
-    )?;
-    time_in_field(field, items)
 }
 
 /// The time in the timestamp of a data message, by the places of the fields.

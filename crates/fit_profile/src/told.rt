@@ -1,17 +1,12 @@
 //! Times and accumulated values of a message.
 ghost use Rattle.std.specs.Prelude.{◌≡◌, ◌≤◌, ◌<◌, ◌^◌, ◌%◌, ◌/◌, None, Some, option_map, option_and_then, unwrap_or};
-ghost use Rattle.fit_record.specs.Environment.{defined_at};
 ghost use Rattle.fit_record.specs.Faults.{or_else};
-ghost use Rattle.fit_profile.specs.Times as times;
 ghost use Rattle.fit_profile.specs.Accumulated as sums;
 ghost use Rattle.fit_profile.specs.Told as telling;
 ghost use Rattle.fit_profile.specs.inner.Alone.{times_alone};
 
-use crate::component::{Component, may_count, number};
+use crate::component::Component;
 use crate::least::least_from;
-use crate::time::{field_time, header_time};
-use fit_record::{Env, MessageDef, Record, Values};
-use std::alloc::Allocator;
 
 /// What is told of a data message.
 #[derive(Clone, Copy)]
@@ -78,50 +73,6 @@ pub(crate) fn speed(number: Option<u64>) -> Option<u64>
     Some(number? % 4096)
 }
 
-/// The time of a message.
-fn time<A: Allocator>(
-    previous: Option<u32>,
-    definition: &MessageDef<A>,
-    values: &Values<A>,
-) -> Option<u32>
-    ensures { result ≡ or_else (times.field_time definition.now values.now)
-        (times.header_time previous values.now.offset) }
-{
-    match field_time(definition, values) {
-        Some(time) => Some(time),
-        None => header_time(previous, values.offset),
-    }
-}
-
-/// The time of a data message by the last time before it.
-fn time_of_values<A: Allocator>(
-    env: &Env<A>,
-    previous: Option<u32>,
-    values: &Values<A>,
-) -> Option<u32>
-    ensures { result ≡ or_else (times.own_time env.now values.now)
-        (times.header_time previous values.now.offset) }
-{
-    match env.definition(values.local) {
-        Some(definition) => time(previous, definition, values),
-        None => header_time(previous, values.offset),
-    }
-}
-
-/// The time of a record by the last time before it.
-pub(crate) fn time_of<A: Allocator>(
-    env: &Env<A>,
-    previous: Option<u32>,
-    record_: &Record<A>,
-) -> Option<u32>
-    ensures { result ≡ times.time_of env.now previous record_.now }
-{
-    match record_ {
-        Record::Define(_) => None,
-        Record::Values(values) => time_of_values(env, previous, values),
-    }
-}
-
 /// What is told of a message with these times and these numbers of counters, by the last ones before it.
 pub(crate) fn counted(
     last: Last,
@@ -166,52 +117,6 @@ pub(crate) fn uncounted(time: Option<u32>, header_time: Option<u32>) -> Told
     }
 }
 
-/// What is told of a message with counters by the last ones before it.
-fn counted_at<A: Allocator>(last: Last, definition: &MessageDef<A>, values: &Values<A>) -> Told
-    ensures { result ≡ telling.told_at last definition.now values.now }
-{
-    let time = time(last.time, definition, values);
-    let header_time = header_time(last.time, values.offset);
-    let distance = number(DISTANCE, definition, values);
-    let cycles = number(TOTAL_CYCLES, definition, values);
-    let power = number(ACCUMULATED_POWER, definition, values);
-    counted(last, time, header_time, distance, cycles, power)
-}
-
-/// What is told of a message by the last ones before it.
-fn told_at<A: Allocator>(last: Last, definition: &MessageDef<A>, values: &Values<A>) -> Told
-    ensures { result ≡ telling.told_at last definition.now values.now }
-{
-    if may_count(definition) {
-        return counted_at(last, definition, values);
-    }
-    uncounted(
-        time(last.time, definition, values),
-        header_time(last.time, values.offset),
-    )
-}
-
-/// What is told of a data message.
-fn tell_values<A: Allocator>(env: &Env<A>, last: Last, values: &Values<A>) -> Option<Told>
-    ensures { result ≡ option_map (λ p. telling.told_at last p.definition values.now)
-        (defined_at env.now values.now.local) }
-{
-    match env.definition(values.local) {
-        Some(definition) => Some(told_at(last, definition, values)),
-        None => None,
-    }
-}
-
-/// What is told of a record.
-pub(crate) fn tell<A: Allocator>(env: &Env<A>, last: Last, record_: &Record<A>) -> Option<Told>
-    ensures { result ≡ telling.tell env.now last record_.now }
-{
-    match record_ {
-        Record::Define(_) => None,
-        Record::Values(values) => tell_values(env, last, values),
-    }
-}
-
 /// The last ones after a record.
 pub(crate) fn last_after(last: Last, told: Option<Told>) -> Last
     ensures { result ≡ telling.last_after last told }
@@ -234,37 +139,5 @@ pub(crate) fn with_time(last: Last, time: Option<u32>) -> Last
     Last {
         time: time.or(last.time),
         ..last
-    }
-}
-
-/// The last ones after a message.
-fn last_at<A: Allocator>(last: Last, definition: &MessageDef<A>, values: &Values<A>) -> Last
-    ensures { result ≡ telling.last_after last
-        (Some (telling.told_at last definition.now values.now)) }
-{
-    if may_count(definition) {
-        return last_after(last, Some(counted_at(last, definition, values)));
-    }
-    with_time(last, time(last.time, definition, values))
-}
-
-/// The last ones after a data message.
-fn last_after_values<A: Allocator>(env: &Env<A>, last: Last, values: &Values<A>) -> Last
-    ensures { result ≡ telling.last_after last (option_map
-        (λ p. telling.told_at last p.definition values.now) (defined_at env.now values.now.local)) }
-{
-    match env.definition(values.local) {
-        Some(definition) => last_at(last, definition, values),
-        None => last,
-    }
-}
-
-/// The last ones after a record, where nothing more of it is told.
-pub(crate) fn last_after_record<A: Allocator>(env: &Env<A>, last: Last, record_: &Record<A>) -> Last
-    ensures { result ≡ telling.last_after last (telling.tell env.now last record_.now) }
-{
-    match record_ {
-        Record::Define(_) => last,
-        Record::Values(values) => last_after_values(env, last, values),
     }
 }

@@ -45,7 +45,7 @@ impl<A: Allocator> Env<A> {
         self.completes(local, to_come, size, room)
     }
 
-    /// The same, by the test alone.
+    /// What `can_complete` returns, by the test alone.
     fn completes(&self, local: u8, to_come: u32, size: u32, room: u32) -> bool
         requires { local < 16 }
         ensures { result ≡ can_complete self.now local to_come size room }
@@ -56,8 +56,10 @@ impl<A: Allocator> Env<A> {
         self.finishes(local, to_come, size, room - to_come)
     }
 
-    /// The same where the number of developer fields is to come after these entries (section
-    /// "Developer Fields"), and is chosen as suits the room.
+    /// Whether a definition message can be completed so that records fill the room after it, where
+    /// `to_come` bytes of its entries are to come, and then the number of its developer fields, which
+    /// is chosen as suits the room (section "Developer Fields"). `local`, `size` and `room` are those
+    /// of `can_complete`.
     pub fn can_complete_dev(&self, local: u8, to_come: u32, size: u32, room: u32) -> bool
         requires { local < 16 }
         ensures test { result ≡ can_complete_dev self.now local to_come size room }
@@ -67,7 +69,7 @@ impl<A: Allocator> Env<A> {
         self.completes_dev(local, to_come, size, room)
     }
 
-    /// The same, by the test alone.
+    /// What `can_complete_dev` returns, by the test alone.
     fn completes_dev(&self, local: u8, to_come: u32, size: u32, room: u32) -> bool
         requires { local < 16 }
         ensures { result ≡ can_complete_dev self.now local to_come size room }
@@ -111,7 +113,7 @@ pub fn can_complete_front(dev: bool, come: u32, room: u32) -> bool
     completes_front(dev, come, room)
 }
 
-/// The same, by the test alone.
+/// What `can_complete_front` returns, by the test alone.
 fn completes_front(dev: bool, come: u32, room: u32) -> bool
     requires { come < 5 }
     ensures { result ≡ can_complete_front dev come room }

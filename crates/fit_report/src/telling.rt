@@ -79,7 +79,8 @@ impl Telling {
             (channel K.contents K.has_failed sink.old sink.new)
             self.old.written self.new.written result }
         // A sink that had not failed has not failed after a piece that is told.
-        ensures works { OnOk result (K.has_failed sink.old ≡ false → K.has_failed sink.new ≡ false) }
+        ensures works { OnOk result
+            (K.has_failed sink.old ≡ false → K.has_failed sink.new ≡ false) }
         ensures viable { IsViable Global chain_limit self.new.seen.bytes }
     {
         tell_piece(

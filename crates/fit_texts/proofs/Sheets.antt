@@ -1,8 +1,7 @@
 -- Texts that are written in a sheet, and put after a text together.
-use Rattle.fit_texts.proofs.Common.{◌≡◌, ◌≤◌, ◌∙◌, ◌+◌, ◌/◌, ◌^◌, ◌++◌, ◌∷◌, [], ap, arith, subst, sym, append_assoc, length, take, and_sheet}
+use Rattle.fit_texts.proofs.Common.{◌≡◌, ◌≤◌, ◌∙◌, ◌+◌, ◌/◌, ◌^◌, ◌++◌, ◌∷◌, [], ap, arith, sym, append_assoc, length, take, and_sheet}
 use Rattle.fit_texts.proofs.Common.{Row, csv_text, text_append}
-use Rattle.std.proofs.Common.{ℕ, List, Result, decimal}
-use Rattle.std.specs.Prelude.{IfOk}
+use Rattle.std.proofs.Common.{ℕ, List, decimal}
 use Rattle.std.proofs.lemmas.List.{append-nil, length-append, length-take-le}
 
 -- nothing is written

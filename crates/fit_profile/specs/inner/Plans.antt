@@ -28,12 +28,12 @@ time_of_fields order fields bytes =
 abbrev pub time_at : Order → Option ℕ → List ℕ → Option ℕ
 time_at order place bytes = option_and_then (λ p. valid_time (number order (take 4 (drop p bytes)))) place
 
--- This plan is that of the definition: it knows whether a message tells more than a time, whether it describes a developer field, whether each
--- field is one number, where each field stands, and where its time and its counters do.
+-- This plan is that of the definition: it knows whether a message tells more than a time, whether it describes a developer field, where each
+-- field stands, and where its time and its counters do, and it may know whether each field is one number.
 pub record IsPlan (plan : Plan) (d : MessageDef Global) : Type 0 where
   pub more : plan.tells_more ≡ tells_more d
   pub describes : plan.describes ≡ (d.global == 206)
-  pub lone : plan.has_lone_fields ≡ has_lone_fields d
+  pub lone : IfSome plan.has_lone_fields (λ lone. lone ≡ has_lone_fields d)
   pub places : AreFieldPlaces plan.places d.fields
   pub within : IfSome plan.time_place (λ p. p + 4 ≤ sizes (slots d.fields))
   pub time : (bytes : List ℕ) → time_of_fields d.order d.fields bytes ≡ time_at d.order plan.time_place bytes

@@ -15,10 +15,11 @@ ghost use Rattle.fit_profile.specs.Told as telling;
 ghost use Rattle.fit_names.specs.Values.{IsAmount};
 
 use super::Stream;
+use crate::by_plan::{tell, time_of};
 use crate::message_bytes::{speed_and_distance, time_in};
 use crate::names::Texts;
 use crate::time::header_time;
-use crate::told::{Told, tell, time_of};
+use crate::told::Told;
 use fit_names::in_scale;
 use fit_numbers::Fixed;
 use fit_record::Record;
@@ -38,7 +39,7 @@ impl Stream {
     pub fn time(&self, record_: &Record) -> Option<u32>
         ensures { result ≡ times.time self.now record_.now }
     {
-        time_of(&self.env, self.last.time, record_)
+        time_of(&self.env, &self.plans, self.last.time, record_)
     }
 
     /// The time of the data message in these bytes, in seconds since 1989-12-31T00:00:00 UTC, as of `time`.
@@ -84,7 +85,7 @@ impl Stream {
         requires { Fits (known self.now) record_.now }
         ensures { result ≡ told_of self.now record_.now }
     {
-        tell(&self.env, self.last, record_)
+        tell(&self.env, &self.plans, self.last, record_)
     }
 
     /// The name and the unit of a developer field of a local message type.

@@ -1,11 +1,13 @@
-use Rattle.std.proofs.Common.{◌∙◌, ℕ, List, ◌+◌, ◌++◌, ap, ap₂, length, map, sym}
+use Rattle.std.proofs.Common.{◌≡◌, ◌∙◌, ℕ, Bool, List, Option, Some, ◌+◌, ◌++◌, ap, ap₂, length, map, subst, sym}
 use Rattle.std.proofs.lemmas.Result.{IfOk-from_err, on_ok_weaker}
-use Rattle.std.specs.Prelude.{sum_by}
+use Rattle.std.specs.Global.{Global}
+use Rattle.std.specs.Prelude.{IfSome, if◌then◌else◌, sum_by}
 use Rattle.fit_profile.specs.Described.{namings_at}
 use Rattle.fit_record.specs.Environment.{dev_defs}
 use Rattle.fit_record.specs.declared.definition.DevDef.{DevDef}
 use Rattle.fit_record.specs.declared.definition.FieldDef.{FieldDef}
-use Rattle.fit_messages.specs.Blocks.{column, columns, definition_opening, entries, sized, whole}
+use Rattle.fit_record.specs.declared.environment.Defined.{Defined}
+use Rattle.fit_messages.specs.Blocks.{column, columns, counts, definition_opening, entries, items_begin, sized, whole}
 use Rattle.fit_messages.specs.inner.Columns.{dev_columns}
 use Rattle.fit_messages.proofs.EntryFacts.{both_entries}
 use Rattle.fit_profile.proofs.KnownFacts.{namings_long}
@@ -15,11 +17,22 @@ pub put_devs-requires-clause-namings : goal.put_devs-requires-clause-namings
 put_devs-requires-clause-namings c =
     namings_long c.args.stream.now c.args.defined.now.definition.local c.args.defined.now c.requires.place ∙ sym (ap length c.dev_slice-dev.ensures)
 
-pub put_head-requires : goal.put_head-requires
-put_head-requires c =
+-- where items begin, by what a stream says of the definition
+begins : (q : Option (Defined Global)) (p : Defined Global) (b : Bool) (start : ℕ) → q ≡ Some p → IfSome q (λ x. b ≡ counts x.definition)
+    → start ≡ 40 + (if b then 32 else 0) → start ≡ items_begin p.definition
+begins q p b start is said at =
+    at ∙ ap (λ (x : Bool). 40 + (if x then 32 else 0)) (subst (λ o. IfSome o (λ (x : Defined Global). b ≡ counts x.definition)) is said)
+
+pub put_head-requires-clause-counts : goal.put_head-requires-clause-counts
+put_head-requires-clause-counts c =
+    subst (λ q. IfSome q (λ (x : Defined Global). c.may_count-counts.result ≡ counts x.definition)) c.requires.place c.may_count-counts.ensures
+
+pub put_head-requires-clause-length : goal.put_head-requires-clause-length
+put_head-requires-clause-length c =
+    let start = begins _ c.args.defined.now _ _ c.requires.place c.may_count-counts.ensures c.items_begin-start.ensures.place in
     c.in_ok-end.ensures.end
     ∙ ap₂ (λ m fs. m + sum_by (λ (f : DevDef). whole f.size) fs)
-    (c.in_ok-middle.ensures.end ∙ ap₂ (λ s fs. s + sum_by (λ (f : FieldDef). whole f.size) fs) c.items_begin-start.ensures.place c.as_slice-fields.ensures)
+    (c.in_ok-middle.ensures.end ∙ ap₂ (λ s fs. s + sum_by (λ (f : FieldDef). whole f.size) fs) start c.as_slice-fields.ensures)
     c.dev_slice-dev.ensures
 
 pub returns : goal.returns
@@ -39,7 +52,7 @@ returns c = on_ok_weaker c.put_sized.result (λ put.
     (c.in_ok-middle.ensures.end ∙ ap (λ fs. start + sum_by (λ (f : FieldDef). whole f.size) fs) c.as_slice-fields.ensures)
     (c.in_ok-end.ensures.entries
     ∙ ap₂ (λ fs coded. b1 ++ entries middle (dev_columns fs coded namings)) c.dev_slice-dev.ensures c.as_slice-codes.ensures) in
-    let all = made ∙ ap (λ s. entries s (columns p namings)) c.items_begin-start.ensures.place in
+    let all = made ∙ ap (λ s. entries s (columns p namings)) (begins _ p _ _ c.requires.place c.may_count-counts.ensures c.items_begin-start.ensures.place) in
     let rest = c.in_ok-extend_from_slice.ensures.items
     ∙ ap₂ (λ (a b : List ℕ). a ++ b) (c.in_ok-put_head.ensures ∙ ap (λ b. b ++ head) c.new-rest.ensures.items) (c.as_slice.ensures.value ∙ all) in
     put ∙ ap (λ b. old ++ sized b) (c.as_slice-2.ensures.value ∙ rest)) c.put_sized.ensures

@@ -1,4 +1,4 @@
-use Rattle.std.proofs.Common.{◌∙◌, ◌+◌, ◌++◌, ◌≤◌, [], ap, arith, length, subst, sym, take}
+use Rattle.std.proofs.Common.{◌∙◌, ◌++◌, ◌≤◌, [], ap, arith, length, subst, sym, take}
 use Rattle.std.proofs.lemmas.List.{append-nil, length-take-le}
 use Rattle.std.proofs.lemmas.Option.{none-some, same_Some}
 use Rattle.std.proofs.lemmas.Result.{on_ok_weaker}

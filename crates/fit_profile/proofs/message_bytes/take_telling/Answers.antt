@@ -1,30 +1,33 @@
-use Rattle.fit_profile.proofs.Common.{◌≡◌, ◌∙◌, ◌++◌, ◌∷◌, [], sym, ap, subst, true, IsSomeAnd, None, Some}
+use Rattle.fit_profile.proofs.Common.{◌≡◌, ◌∙◌, ◌++◌, ◌∷◌, [], sym, ap, subst, true, IsSomeAnd, None}
 use Rattle.fit_profile.proofs.Common.{defined_at, described_by, tell, last_after}
 use Rattle.std.proofs.Common.{◌==◌}
 use Rattle.fit_record.specs.MessageBytes.{message_in}
 use Rattle.fit_record.specs.declared.message.Record.TheVariants.{Values as Data}
 use Rattle.fit_profile.proofs.NoCounters.{tells, describes-nothing}
-use Rattle.fit_profile.proofs.Planned.{may_count_is}
 use Rattle.fit_profile.proofs.TakenMessages.{said_of_it}
 use Rattle.fit_profile.proofs.message_bytes.take_telling.Goals as goal
 
-pub said_of-requires-clause-counts : goal.said_of-requires-clause-counts
-said_of-requires-clause-counts c =
-    let m = c.message_of-message.result in
-    c.may_count-may_count.ensures ∙ may_count_is c.plan_of-plan.result.now (Some m.defined.now) c.plan_of-plan.ensures
-
 pub returns-clause-said : goal.returns-clause-said
-returns-clause-said c v p is known_ =
-    said_of_it c.args.env.now c.args.last.now c.message_of-message.result c.tell_next-told.result c.said_of.result
-    c.message_of-message.ensures.defined c.tell_next-told.ensures.told c.said_of.ensures v p (c.message_of-message.ensures.read v is) known_
+returns-clause-said c asked v p is known_ =
+    let lone = c.lone_fields-lone.result in
+    said_of_it c.args.env.now c.args.last.now c.message_of-message.result (record c.say_next-taken.result { has_lone_fields = lone })
+    c.message_of-message.ensures.defined (c.say_next-taken.ensures.said lone (c.lone_fields-lone.ensures.lone asked)) v p
+    (c.message_of-message.ensures.read v is) known_
+
+pub lone_fields-lone-requires : goal.lone_fields-lone-requires
+lone_fields-lone-requires c = c.plan_of-plan.ensures.lone
+
+pub returns-clause-plans : goal.returns-clause-plans
+returns-clause-plans c =
+    c.lone_fields-lone.ensures.plans c.args.env.now.places c.message_of-message.ensures.defined c.requires.plans
 
 pub returns-clause-last : goal.returns-clause-last
 returns-clause-last c _ v is =
     let m = c.message_of-message.result in
     let e = c.args.env.now in
     let last = c.args.last.now in
-    subst (λ w. c.tell_next-told.new.last ≡ last_after last (tell e last (Data w))) (c.message_of-message.ensures.read v is)
-    (c.tell_next-told.ensures.last
+    subst (λ w. c.say_next-taken.new.last ≡ last_after last (tell e last (Data w))) (c.message_of-message.ensures.read v is)
+    (c.say_next-taken.ensures.last
     ∙ sym (ap (last_after last) (tells e m.defined.now last (message_in m) c.message_of-message.ensures.defined)))
 
 pub returns-clause-records : goal.returns-clause-records

@@ -1,4 +1,4 @@
-use Rattle.std.proofs.Common.{◌∙◌, ◌+◌, ◌++◌, ap, ap₂, arith, length, subst, sym, take}
+use Rattle.std.proofs.Common.{◌∙◌, ◌++◌, ap, ap₂, arith, length, subst, sym, take}
 use Rattle.std.proofs.lemmas.List.{length-drop}
 use Rattle.std.proofs.lemmas.Option.{same_Some}
 use Rattle.std.specs.Global.{Global}

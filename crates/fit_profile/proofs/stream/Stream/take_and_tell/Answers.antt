@@ -5,6 +5,9 @@ use Rattle.fit_record.specs.declared.message.Record.TheVariants.{Values as Data}
 use Rattle.fit_profile.specs.Taken.{IsTaken}
 use Rattle.fit_profile.proofs.stream.Stream.take_and_tell.Goals as goal
 
+pub returns-in-Some-clause-said : goal.returns-in-Some-clause-said
+returns-in-Some-clause-said c = c.in-Some.ensures.said refl
+
 pub returns-in_ok-taken-in-None-clause-said : goal.returns-in_ok-taken-in-None-clause-said
 returns-in_ok-taken-in-None-clause-said c =
     let bytes = c.args.bytes.now in

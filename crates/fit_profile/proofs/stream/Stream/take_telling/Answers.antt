@@ -27,7 +27,7 @@ invariant_of-self c =
         | inr left ↦ subst (λ xs. KeepsRecords s.env last s.names (reverse xs)) (sym (c.take_telling.ensures.records_kept left))
             (subst (λ l. KeepsRecords s.env l s.names (reverse items)) (sym (c.take_telling.ensures.last_kept left)) c.self.invariant.0)
       ],
-      c.self.invariant.1,
+      c.take_telling.ensures.plans,
       elim (some_or_none c.take_telling.result) [
         | inl taken ↦ not-first s.is_new items c.take_telling.new.records.items c.args.self.now s.env (Data v) c.self.invariant.2 c.self.view_is
             c.requires.1.0 (c.take_telling.ensures.nothing taken v is)
@@ -36,7 +36,7 @@ invariant_of-self c =
     )
 
 pub returns-clause-said : goal.returns-clause-said
-returns-clause-said c = IfSome_then c.take_telling.result c.take_telling.ensures.said (λ t said v p read known_.
+returns-clause-said c asked = IfSome_then c.take_telling.result (c.take_telling.ensures.said asked) (λ t said v p read known_.
     said_now c.args.self.now v p t c.self.invariant.0 c.self.view_is known_
     (said v p (kept-record c.args.self.now (Data v) c.args.bytes.now c.self.invariant.0 c.self.view_is read)
     (defined_inside c.args.self.now v p c.self.invariant.0 c.self.view_is known_)))

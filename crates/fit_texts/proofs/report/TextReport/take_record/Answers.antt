@@ -1,4 +1,4 @@
-use Rattle.fit_texts.proofs.Common.{◌≡◌, ◌∙◌, ◌∷◌, ◌++◌, sym, ap, subst, Data, Fits, KeptEvents, item, kept_events, known}
+use Rattle.fit_texts.proofs.Common.{◌∙◌, ◌∷◌, ◌++◌, sym, ap, subst, Data, Fits, KeptEvents, item, kept_events, known}
 use Rattle.std.proofs.lemmas.Result.{on_ok_weaker}
 use Rattle.fit_record.specs.Records.{IsRecord, record_bytes}
 use Rattle.fit_texts.proofs.report.TextReport.take_record.Goals as goal

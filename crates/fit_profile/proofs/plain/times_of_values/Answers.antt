@@ -1,4 +1,0 @@
-use Rattle.fit_profile.proofs.plain.times_of_values.Goals as goal
-
-pub times_by-requires-clause-alone : goal.times_by-requires-clause-alone
-times_by-requires-clause-alone c = cc

@@ -1,9 +1,0 @@
-use Rattle.fit_profile.proofs.Common.{◌∙◌, sym, ap}
-use Rattle.fit_profile.specs.Times.{time_of}
-use Rattle.fit_profile.proofs.told.time_of.Goals as goal
-
-pub returns-in-Define : goal.returns-in-Define
-returns-in-Define g c = ap (time_of c.args.env.now c.args.previous) (sym c.in-Define.is)
-
-pub returns-in-Values : goal.returns-in-Values
-returns-in-Values g c = c.time_of_values.ensures ∙ ap (time_of c.args.env.now c.args.previous) (sym c.in-Values.is)
