@@ -128,7 +128,7 @@ pub(crate) static POINT_FIELDS: [Entry; 9] = [
     [13, 1, SINT8],
 ];
 
-/// The same of a watch: 34 bytes.
+/// A second of a ride as a watch writes it, after its timestamp: 34 bytes.
 pub(crate) static WATCH_FIELDS: [Entry; 14] = [
     [0, 4, SINT32],
     [1, 4, SINT32],

@@ -17,7 +17,7 @@ pub(crate) enum Kind {
     Plain,
     /// A message of fifteen fields and four developer fields each second.
     Developer,
-    /// The same, with the highest byte of each number first.
+    /// The messages of `Developer`, with the highest byte of each number first.
     Big,
     /// Compressed timestamp headers, and speed and distance in one field.
     Compressed,

@@ -1,11 +1,11 @@
 -- The names of std, of the crates below and of this crate's specs that several proofs use: each proof takes them from here.
-pub use Rattle.std.proofs.Common.{◌≡◌, ◌∙◌, ◌++◌, Bor, ◌+◌, length, take, drop, true, false, sym, ap, refl, [], ◌∷◌, arith, subst, inl, inr, zero, suc, ◌≤◌}
+pub use Rattle.std.proofs.Common.{◌≡◌, ◌∙◌, ◌++◌, ◌+◌, length, take, drop, true, false, sym, ap, refl, [], ◌∷◌, arith, subst, inl, inr, zero, suc, ◌≤◌}
 pub use Rattle.std.proofs.Common.{ap₂, ◌^◌, ◌-◌, append_assoc, eq-eqb, eqb-true, min, Bool, Result, Err, map, get_or, All, lit<, ◌/◌}
 pub use Rattle.std.proofs.KnownBytes.{Consumes-whole, Consumes-trans}
 pub use Rattle.std.proofs.Math.Seq.{take-append-add, get_or-append_seam}
 pub use Rattle.std.proofs.lemmas.Bool.{cases_lt, false_from_ne_true, cases_Bool, eqb-false}
 pub use Rattle.std.proofs.lemmas.Bool.Decides.{nat_tests}
-pub use Rattle.std.proofs.lemmas.Fmt.{decimal_nonempty, decimal_injective, parse-decimal, IsAscii-decimal}
+pub use Rattle.std.proofs.lemmas.Fmt.{decimal_nonempty, decimal_injective}
 pub use Rattle.std.proofs.lemmas.List.{take-take, reverse-reverse, length-map, map-append, reverse-append, nil_from_length, take_at}
 pub use Rattle.std.proofs.lemmas.Option.{slice_get-get_or, slice_get_within, slice_get-map, IfSome_then, slice_get_read}
 pub use Rattle.std.proofs.lemmas.Result.{err_from_is_err_and, MatchResult-weaker, on_ok_weaker}
@@ -16,8 +16,7 @@ pub use Rattle.std.specs.Io.KnownBytes.{Appends, Consumes, IsAtEnd}
 pub use Rattle.std.specs.List.{AllByRecursion, list_all}
 pub use Rattle.std.specs.Option.{option_map_or}
 pub use Rattle.std.specs.Prelude.{flat_map, slice_get, option_and_then, zip, IsSomeAnd, ◌↔◌, nat_lt, IsSome, find, ◌&&◌}
-pub use Rattle.std.specs.Str.{IsUtf8}
-pub use Rattle.csv.specs.Reading.{default_config, strip_bom, reader_state}
+pub use Rattle.csv.specs.Reading.{default_config, strip_bom}
 unfoldable pub use Rattle.csv.specs.Reading.{Reached}
 pub use Rattle.csv.specs.Records.{fields_of}
 unfoldable pub use Rattle.csv.specs.Records.{field_at}
@@ -28,11 +27,10 @@ pub use Rattle.fit_base.specs.Numbers.{IsBytes, little_bytes, number_bytes}
 pub use Rattle.fit_base.specs.declared.items.Items.{Items}
 pub use Rattle.fit_base.specs.declared.number.Order.{Order}
 pub use Rattle.fit_base.specs.declared.number.Order.TheVariants.{Little, Big}
-pub use Rattle.fit_cells.proofs.AddedRows.{text_append}
 pub use Rattle.fit_cells.proofs.ReadFacts.{bytes-shown, length-pairs}
 pub use Rattle.fit_cells.proofs.RowFacts.{reached-first, reads_one_way, begins-otherwise, reads_back}
 pub use Rattle.fit_cells.specs.Cells.{cell}
-pub use Rattle.fit_cells.specs.Rows.{Row, first_line, RowsOfText, HasRead, Follows}
+pub use Rattle.fit_cells.specs.Rows.{Row, first_line, RowsOfText}
 unfoldable pub use Rattle.fit_cells.specs.Rows.{csv_text, NoneEmpty}
 pub use Rattle.fit_chain.specs.Events.{Event, file_events}
 pub use Rattle.fit_encode.specs.Faults.{IsFirstFault, StopsAt, AtFile, AtRecord, IfWrite, UnlessWrite}

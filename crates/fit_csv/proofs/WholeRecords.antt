@@ -1,10 +1,10 @@
 -- A chain goes on with the rows of a record.
-use Rattle.fit_csv.proofs.Common.{◌≡◌, ◌∙◌, ◌+◌, ◌++◌, length, map, ap, arith, subst, zip, Defined, Global, IsSomeAnd, length-map, length-zip, FitFile, Record}
+use Rattle.fit_csv.proofs.Common.{◌≡◌, ◌∙◌, ◌+◌, ◌++◌, length, map, ap, arith, subst, zip, Defined, Global, IsSomeAnd, length-map, length-zip, Record}
 use Rattle.fit_csv.proofs.Common.{Define, Data, Values, MessageDef, DataFits, Fits, defined_at, dev_defs, known, namings_at, layout, dev_layout}
 use Rattle.fit_csv.proofs.Common.{csv_text, dev_def_row, dev_row, dev_rows, field_def_row, field_row, field_rows, record_rows}
 use Rattle.fit_csv.proofs.Common.{RecordInRange, with_record, OpenFile, Nothing}
 use Rattle.std.proofs.Common.{ℕ, ◌<◌, List, Some, length-append}
-use Rattle.fit_csv.specs.inner.Judging.{TakesRows}
+use Rattle.fit_csv.specs.inner.Judging.{FileTakesRows}
 use Rattle.fit_profile.proofs.KnownFacts.{codes-long}
 use Rattle.fit_texts.proofs.NamingFacts.{namings_long}
 use Rattle.fit_texts.proofs.Shapes.{as_long}
@@ -66,8 +66,7 @@ some-rows before (Data v) fits = omega (arith, message-long before v fits)
 
 -- one more record
 pub record-goes-on : (f : OpenFile) (r : Record Global) (text left : List ℕ) (count : ℕ) → f.part ≡ Nothing → Fits (known f.before) r → RecordInRange r
-    → text ≡ csv_text (record_rows f.before r) ++ left → count ≡ length (record_rows f.before r) → (files : List (FitFile Global))
-    → TakesRows text left count (record { files = files; current = Some f }) (record { files = files; current = Some (with_record f r) })
+    → text ≡ csv_text (record_rows f.before r) ++ left → count ≡ length (record_rows f.before r) → FileTakesRows text left count f (with_record f r)
 record-goes-on f r text left count none fits range begins many files = record {
   rows = record_rows f.before r;
   begins = begins;

@@ -12,7 +12,7 @@ mod runs;
 mod sheet;
 
 use crate::loose::cells::put_cells;
-use crate::loose::lines::{LINE_SIZE, after_return, put_some};
+use crate::loose::lines::{LINE_SIZE, after_return, put_short_line};
 use crate::loose::runs::{bare_length, mark, run_length};
 use crate::loose::sheet::{SHEET_SIZE, Sheet};
 
@@ -267,8 +267,8 @@ fn take_unquoted<'a>(written: &mut Vec<u8>, text: &'a [u8]) -> Result<&'a [u8], 
     }
 }
 
-/// Spells anew a beginning of a text, and returns what is left.
-fn take_some<'a>(written: &mut Vec<u8>, text: &'a [u8]) -> Result<&'a [u8], Unspelled>
+/// Spells anew a cell in quotes, a carriage return and a line feed, or bytes before the next of these. Returns what is left.
+fn take_one<'a>(written: &mut Vec<u8>, text: &'a [u8]) -> Result<&'a [u8], Unspelled>
     ensures goes { IfOk result (λ left.
         WritesOn text.now left.now written.old.items written.new.items) }
     ensures grows { IfOk result (λ left. Grows written.old.items written.new.items) }
@@ -308,7 +308,7 @@ fn take_short<'a>(
         if let [b'"', ..] = left {
             (at, left) = put_cells(written.as_slice(), sheet, at, left, limit);
         } else {
-            (at, left) = put_some(sheet, at, left, stop);
+            (at, left) = put_short_line(sheet, at, left, stop);
         }
         if at == before {
             break;
@@ -321,7 +321,7 @@ fn take_short<'a>(
 }
 
 /// Spells anew short lines and cells at the front of a text, and what comes then, unless that many bytes are written. Returns what is left.
-fn take_more<'a>(
+fn take_short_then_one<'a>(
     written: &mut Vec<u8>,
     sheet: &mut Sheet,
     text: &'a [u8],
@@ -341,7 +341,7 @@ fn take_more<'a>(
     if left.is_empty() || written.len() >= many {
         return Ok(left);
     }
-    take_some(written, left)
+    take_one(written, left)
 }
 
 /// Spells a text anew until that many bytes are written or nothing is left of it, and returns what is left.
@@ -364,7 +364,7 @@ pub(crate) fn spell_on<'a>(
         if left.is_empty() || written.len() >= many {
             return Ok(left);
         }
-        left = take_more(written, &mut sheet, left, many)?;
+        left = take_short_then_one(written, &mut sheet, left, many)?;
     }
     Ok(left)
 }

@@ -1,9 +1,9 @@
 -- What has flowed through a lane, by what its telling told.
-use Rattle.fit_stream.proofs.Common.{◌≡◌, ℕ, ◌+◌, ◌<◌, List, [], ◌++◌, length, take, drop, get_or, reverse, Option, Some, None, Result, Ok, Err, refl, sym, ap}
+use Rattle.fit_stream.proofs.Common.{◌≡◌, ℕ, ◌+◌, List, [], ◌++◌, length, take, drop, get_or, reverse, Option, Some, None, Result, Ok, Err, refl, sym, ap}
 use Rattle.fit_stream.proofs.Common.{◌∙◌, subst, arith, append_assoc, length-append, take-append-add, take-append_seam, append-nil, get_or-append-add}
-use Rattle.fit_stream.proofs.Common.{take-append-drop, Global, Appends, FitFile, chain_limit, IsViable, Fault, AreChain, AreFiles, Event, AreEvents}
+use Rattle.fit_stream.proofs.Common.{take-append-drop, Global, Appends, FitFile, chain_limit, IsViable, Fault, AreChain, Event, AreEvents}
 use Rattle.fit_stream.proofs.Common.{IsAny, MayLackMemory, Progress, HasCome, at_header, IsRefused, ReportFault, Lines, text_of, Channel, Stands}
-use Rattle.fit_stream.proofs.Common.{Stops, TellsMore, ToldSoFar, HasLines, IsFound, IsGoodSoFar, EndsFlow, FeedsFlow, Flow, Seen, IsOk, IsErr, ◌↔◌}
+use Rattle.fit_stream.proofs.Common.{Stops, TellsMore, HasLines, IsFound, IsGoodSoFar, EndsFlow, FeedsFlow, Flow, Seen, IsOk, IsErr, ◌↔◌}
 use Rattle.fit_chain.proofs.Faults.{chain_come}
 use Rattle.fit_chain.specs.declared.event.Fault.TheVariants as faults
 use Rattle.fit_report.specs.declared.fault.ReportFault.TheVariants as reports

@@ -1,6 +1,6 @@
 -- Of some bytes one thing is found, and they have one text.
-use Rattle.fit_stream.proofs.Common.{◌≡◌, ℕ, ◌+◌, ◌<◌, List, [], ◌++◌, length, take, drop, get_or, reverse, Result, Ok, Err, refl, sym, ap, ◌∙◌, subst, arith}
-use Rattle.fit_stream.proofs.Common.{length-append, append-nil, take-append-drop, Global, FitFile, chain_limit, IsViable, Fault, AreChain, AreFiles, IsRefused}
+use Rattle.fit_stream.proofs.Common.{◌≡◌, ℕ, ◌<◌, List, [], ◌++◌, length, take, drop, get_or, reverse, Result, Ok, Err, sym, ap, ◌∙◌, subst, arith}
+use Rattle.fit_stream.proofs.Common.{length-append, append-nil, take-append-drop, Global, chain_limit, IsViable, Fault, AreFiles, IsRefused}
 use Rattle.fit_stream.proofs.Common.{at_header, ReportFault, Lines, text_of, HasLines, IsFound}
 use Rattle.std.proofs.lemmas.List.{take-append-le, get_or_append_left, length-take-le, reverse-reverse}
 use Rattle.fit_base.specs.Numbers.{IsBytes}
@@ -11,7 +11,7 @@ use Rattle.fit_chain.specs.Laws.{EventsAreOne, ProgressIsOne, ReasonsAreOne}
 use Rattle.fit_chain.proofs.Faults.{chain_come, fault_of_chain}
 use Rattle.fit_report.specs.declared.fault.ReportFault.TheVariants as reports
 use Rattle.fit_report.specs.Reports.{before_fault}
-use Rattle.fit_stream.specs.Laws.{HadMemory, StreamsFindOne}
+use Rattle.fit_stream.specs.Laws.{StreamsFindOne}
 
 -- ---- where bytes are refused
 

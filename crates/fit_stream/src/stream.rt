@@ -39,12 +39,12 @@ pub struct Stream {
 }
 
 /// Frees what a stream has.
-fn let_go(_lanes: Lanes) {}
+fn free_lanes(_lanes: Lanes) {}
 
 impl Drop for Stream {
     fn drop(self) {
         let Stream { lanes } = self;
-        let_go(lanes);
+        free_lanes(lanes);
     }
 }
 

@@ -1,11 +1,14 @@
 -- What of a text has been judged, and what is left of it. No public contract names these.
-use Rattle.std.specs.Prelude.{◌≡◌, ◌<◌, ◌+◌, ◌++◌, ◌∷◌, ℕ, List, length}
+use Rattle.std.specs.Prelude.{◌≡◌, ◌<◌, ◌+◌, ◌++◌, ◌∷◌, ℕ, List, Some, length}
+use Rattle.std.specs.Global.{Global}
 use Rattle.csv.specs.Reading.{AreRecords, default_config}
 use Rattle.csv.specs.declared.parser.State.TheVariants as st
+use Rattle.fit_record.specs.declared.file.FitFile.{FitFile}
 use Rattle.fit_cells.specs.Rows.{NoneEmpty, Row, RowsOfText, csv_text, first_line}
 use Rattle.fit_csv.specs.declared.fault.CsvFault.{CsvFault}
 use Rattle.fit_csv.specs.declared.from.chain.Chain.{Chain}
 use Rattle.fit_csv.specs.declared.from.judge.RowJudge.{RowJudge}
+use Rattle.fit_csv.specs.declared.from.open_file.OpenFile.{OpenFile}
 use Rattle.fit_csv.specs.inner.Progress.{Run, nothing_yet}
 use Rattle.fit_csv.specs.inner.TextFaults.{IsTextFault}
 
@@ -17,6 +20,11 @@ pub record TakesRows (text left : List ℕ) (count : ℕ) (old new : Chain) : Ty
   pub run : Run old rows new
   pub many : count ≡ length rows
   pub more : 0 < count
+
+-- The text begins with that many rows, with which a file goes on, whatever files of its chain are whole, and this is left of it.
+abbrev pub FileTakesRows : List ℕ → List ℕ → ℕ → OpenFile → OpenFile → Type 0
+FileTakesRows text left count old new = (files : List (FitFile Global))
+    → TakesRows text left count (record { files = files; current = Some old }) (record { files = files; current = Some new })
 
 -- Whatever rows are left come in the text after the first line and these.
 abbrev pub AreBefore : List ℕ → List Row → List ℕ → Type 0

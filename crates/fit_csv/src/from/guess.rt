@@ -1,14 +1,14 @@
-//! Takes records whose rows stand as `to_csv` writes them straight from a text.
-ghost use Rattle.std.specs.Prelude.{◌≡◌, ◌+◌, IfOk, IfSome, IsNone, List, Some, length, reverse};
+//! Takes records whose rows stand as `to_csv` writes them straight from a text. What takes a record returns how many rows it has and
+//! what is left of the text. It may return none where a text begins with a record, and then nothing changes.
+ghost use Rattle.std.specs.Prelude.{◌≡◌, ◌+◌, IfOk, IfSome, IsNone, length, reverse};
 ghost use Rattle.std.specs.Global.{Global};
-ghost use Rattle.fit_record.specs.declared.file.FitFile.{FitFile};
 ghost use Rattle.fit_record.specs.declared.message.Record.TheVariants.{Values as Data};
 ghost use Rattle.fit_record.specs.declared.message.Values.{Values};
 ghost use Rattle.fit_record.specs.Environment.{dev_defs};
 ghost use Rattle.fit_record.specs.Records.{IsRecord};
 ghost use Rattle.fit_profile.specs.Looks.{known};
 ghost use Rattle.fit_rows.specs.ChainRows.{record_rows};
-ghost use Rattle.fit_csv.specs.inner.Judging.{TakesRows};
+ghost use Rattle.fit_csv.specs.inner.Judging.{FileTakesRows, TakesRows};
 ghost use Rattle.fit_csv.specs.inner.SoundChain.{IsSoundChain};
 
 use crate::from::chain::Chain;
@@ -39,8 +39,7 @@ fn message_rows(before: &Stream, bytes: &[u8]) -> u64
     }
 }
 
-/// Takes the definition message with whose rows a text begins, as `to_csv` writes them, into a file, and returns how many rows they are
-/// and what is left. There may be one where it takes none, and then nothing changes.
+/// Takes the definition message with whose rows a text begins into a file.
 fn take_definition<'a>(
     file: &mut OpenFile,
     reader: &mut MessageReader,
@@ -48,9 +47,8 @@ fn take_definition<'a>(
 ) -> Result<Option<(u64, &'a [u8])>, Misfit>
     requires between { file.old.part ≡ Part.Nothing }
     requires same_records { file.old.before ≡ reverse file.old.records }
-    ensures rows { IfOk result (λ found. IfSome found (λ p. (files : List (FitFile Global))
-        → TakesRows text.now p.1.now p.0 (record { files = files; current = Some file.old })
-        (record { files = files; current = Some file.new }))) }
+    ensures rows { IfOk result (λ found. IfSome found (λ p.
+        FileTakesRows text.now p.1.now p.0 file.old file.new)) }
     ensures same { IfOk result (λ found. IsNone found → file.new ≡ file.old) }
 {
     let Some((definition, rest)) = reader.whole_definition(&file.before, text)? else {
@@ -63,8 +61,7 @@ fn take_definition<'a>(
     Ok(Some((count, rest)))
 }
 
-/// Takes the data message with whose rows a text begins, as `to_csv` writes them, into a file, and returns how many rows they are and
-/// what is left. There may be one where it takes none, and then nothing changes.
+/// Takes the data message with whose rows a text begins into a file.
 fn take_message<'a>(
     file: &mut OpenFile,
     reader: &mut MessageReader,
@@ -72,9 +69,8 @@ fn take_message<'a>(
 ) -> Result<Option<(u64, &'a [u8])>, Misfit>
     requires between { file.old.part ≡ Part.Nothing }
     requires same_records { file.old.before ≡ reverse file.old.records }
-    ensures rows { IfOk result (λ found. IfSome found (λ p. (files : List (FitFile Global))
-        → TakesRows text.now p.1.now p.0 (record { files = files; current = Some file.old })
-        (record { files = files; current = Some file.new }))) }
+    ensures rows { IfOk result (λ found. IfSome found (λ p.
+        FileTakesRows text.now p.1.now p.0 file.old file.new)) }
     ensures same { IfOk result (λ found. IsNone found → file.new ≡ file.old) }
 {
     let Some(left) = reader.whole_message(&file.before, text)? else {
@@ -86,17 +82,15 @@ fn take_message<'a>(
     Ok(Some((count, left)))
 }
 
-/// Takes the record with whose rows a text begins, as `to_csv` writes them, into a file that may end here, and returns how many rows they
-/// are and what is left. There may be one where it takes none, and then nothing changes.
+/// Takes the record with whose rows a text begins into a file. Within a record it takes none.
 fn take_whole<'a>(
     file: &mut OpenFile,
     reader: &mut MessageReader,
     text: &'a [u8],
 ) -> Result<Option<(u64, &'a [u8])>, Misfit>
     requires { file.old.before ≡ reverse file.old.records }
-    ensures rows { IfOk result (λ found. IfSome found (λ p. (files : List (FitFile Global))
-        → TakesRows text.now p.1.now p.0 (record { files = files; current = Some file.old })
-        (record { files = files; current = Some file.new }))) }
+    ensures rows { IfOk result (λ found. IfSome found (λ p.
+        FileTakesRows text.now p.1.now p.0 file.old file.new)) }
     ensures same { IfOk result (λ found. IsNone found → file.new ≡ file.old) }
 {
     if !file.is_between_records() {
@@ -108,7 +102,7 @@ fn take_whole<'a>(
     take_message(file, reader, text)
 }
 
-/// Takes the record with whose rows a text begins into the current file of a chain, as `take_whole` into a file.
+/// Takes the record with whose rows a text begins into the current file of a chain.
 pub(crate) fn take_record<'a>(
     chain: &mut Chain,
     reader: &mut MessageReader,

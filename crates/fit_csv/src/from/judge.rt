@@ -275,7 +275,7 @@ impl RowJudge {
 
     /// Judges the record with whose rows begins what is left of a whole text, or else its first row, or many that are spelled anew. Returns
     /// what is left then, unless no row is left.
-    fn take_some<'a>(
+    fn take_record_or_rows<'a>(
         &mut self,
         window: &mut Window,
         whole: &[u8],
@@ -304,7 +304,7 @@ impl RowJudge {
         let mut window = Window::new(self.values.alloc);
         let mut left = left;
         for _ in 0..whole.len() + 1 {
-            let Some(rest) = self.take_some(&mut window, whole, left)? else {
+            let Some(rest) = self.take_record_or_rows(&mut window, whole, left)? else {
                 return whole_files(self.chain, self.rows);
             };
             left = rest;

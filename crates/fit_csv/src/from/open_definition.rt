@@ -45,7 +45,10 @@ fn take_dev_field(definition: &mut OpenDefinition, cells: &Cells) -> Result<(), 
 }
 
 /// Takes the next row of a definition.
-pub(crate) fn take_definition(definition: &mut OpenDefinition, cells: &Cells) -> Result<(), Misfit>
+pub(crate) fn take_definition_row(
+    definition: &mut OpenDefinition,
+    cells: &Cells,
+) -> Result<(), Misfit>
     requires { length definition.old.fields ≤ definition.old.head.fields }
     ensures ok { OnOk result (DefinitionStep definition.old (row_of cells.now) definition.new) }
     ensures err { IfErr result (IsMisfit (λ r.

@@ -15,8 +15,8 @@ use crate::from::cells::{Cells, ValueReader, same};
 use crate::from::definition::{OpenDefinition, definition_head};
 use crate::from::message::message_head;
 use crate::from::misfit::Misfit;
-use crate::from::open_definition::{definition_of, is_whole, take_definition};
-use crate::from::open_message::{is_whole_message, take_message};
+use crate::from::open_definition::{definition_of, is_whole, take_definition_row};
+use crate::from::open_message::{is_whole_message, take_message_row};
 use fit_base::Entries;
 use fit_encode::SpelledRecords;
 use fit_frame::Header;
@@ -101,11 +101,11 @@ fn next_part(
     match part {
         Part::Nothing => begin_record(reader.alloc, before, cells),
         Part::Definition(mut definition) => {
-            take_definition(&mut definition, cells)?;
+            take_definition_row(&mut definition, cells)?;
             Ok(Part::Definition(definition))
         }
         Part::Message(mut values) => {
-            take_message(reader, cells, before, &mut values)?;
+            take_message_row(reader, cells, before, &mut values)?;
             Ok(Part::Message(values))
         }
     }
@@ -142,7 +142,7 @@ impl OpenFile {
     }
 
     /// This part of a record has come, or all of it.
-    fn settle(&mut self, part: Part) -> Result<(), Misfit>
+    fn add_part(&mut self, part: Part) -> Result<(), Misfit>
         requires same_records { self.old.before ≡ reverse self.old.records }
         requires fits { FitsOnceWhole self.old.before part }
         ensures ok { OnOk result (self.new ≡ settled self.old part) }
@@ -187,6 +187,6 @@ impl OpenFile {
     {
         let part = mem::replace(&mut self.part, Part::Nothing);
         let part = next_part(reader, &self.before, part, cells)?;
-        self.settle(part)
+        self.add_part(part)
     }
 }

@@ -105,7 +105,7 @@ fn take_by(
 }
 
 /// Takes the next row of a data message after the records of a stream.
-pub(crate) fn take_message(
+pub(crate) fn take_message_row(
     reader: &mut ValueReader,
     cells: &Cells,
     before: &Stream,

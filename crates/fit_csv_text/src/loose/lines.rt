@@ -44,7 +44,7 @@ pub(crate) fn after_return(text: &[u8]) -> Option<&[u8]>
 /// Spells anew a short line, or what of it comes before a quote or before the place where writing stops. Returns the place after what is
 /// written then, and what is left.
 #[inline(always)]
-pub(crate) fn put_some<'a>(
+pub(crate) fn put_short_line<'a>(
     sheet: &mut Sheet,
     at: usize,
     text: &'a [u8],

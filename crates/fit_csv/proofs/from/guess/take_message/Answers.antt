@@ -1,8 +1,7 @@
-use Rattle.fit_csv.proofs.Common.{◌≡◌, ◌++◌, sym, subst, csv_text, known, Data, Global, OpenFile, Values}
-use Rattle.std.proofs.Common.{Some}
+use Rattle.fit_csv.proofs.Common.{◌≡◌, ◌++◌, sym, subst, csv_text, known, Data, Global, Values}
 use Rattle.fit_record.specs.Records.{IsRecord}
 use Rattle.fit_rows.specs.ChainRows.{data_rows}
-use Rattle.fit_csv.specs.inner.Judging.{TakesRows}
+use Rattle.fit_csv.specs.inner.Judging.{FileTakesRows}
 use Rattle.fit_csv.proofs.WholeRecords.{record-goes-on}
 use Rattle.fit_csv.proofs.from.guess.take_message.Goals as goal
 
@@ -19,14 +18,12 @@ add_message-requires-clause-message c =
     (read.0, subst (λ b. IsRecord (known c.args.file.now.before) (Data read.0) b) (sym c.bytes-bytes.ensures) read.1)
 
 pub returns-clause-rows : goal.returns-clause-rows
-returns-clause-rows c files =
+returns-clause-rows c =
     let f = c.args.file.now in
     let count = c.message_rows-count.result in
     let read : (v : Values Global) × IsRecord (known f.before) (Data v) c.whole_message.new.self
     × (c.args.text.now ≡ csv_text (data_rows f.before v) ++ c.in-Some.left.now) = rw c.in-Some.is at c.in_ok-left.ensures.read in
     let v = read.0 in
     let is = subst (λ b. IsRecord (known f.before) (Data v) b) (sym c.bytes-bytes.ensures) read.1 in
-    subst (λ (g : OpenFile). TakesRows c.args.text.now c.in-Some.left.now count
-    (record { files = files; current = Some f }) (record { files = files; current = Some g }))
-    (sym (c.in_ok-add_message.ensures.ok v is))
-    (record-goes-on f (Data v) c.args.text.now c.in-Some.left.now count c.requires.between is.0 tt read.2 (c.message_rows-count.ensures v is) files)
+    subst (FileTakesRows c.args.text.now c.in-Some.left.now count f) (sym (c.in_ok-add_message.ensures.ok v is))
+    (record-goes-on f (Data v) c.args.text.now c.in-Some.left.now count c.requires.between is.0 tt read.2 (c.message_rows-count.ensures v is))

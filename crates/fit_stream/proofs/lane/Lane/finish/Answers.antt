@@ -1,7 +1,5 @@
 -- What the telling says at the end is found of all bytes.
-use Rattle.fit_stream.proofs.Common.{◌≡◌, ◌∙◌, ℕ, List, [], ◌++◌, None, Some, Ok, Err, Result, ap, sym, subst, append-nil, rules, refl, Global, IsFound}
-use Rattle.fit_stream.proofs.Common.{EndsFlow, Flow}
-use Rattle.fit_stream.proofs.Common.{LaneNow, ReportFault, text_of}
+use Rattle.fit_stream.proofs.Common.{◌≡◌, ℕ, ◌++◌, None, Ok, Err, Result, sym, subst, rules, refl, IsFound, EndsFlow, Flow, LaneNow, ReportFault}
 use Rattle.fit_report.specs.declared.fault.ReportFault.TheVariants as reports
 use Rattle.fit_stream.proofs.Flowing.{chain_found, ended_again, ends_short, ends_well, short_found}
 use Rattle.fit_stream.proofs.lane.Lane.finish.Goals as goal

@@ -1,5 +1,5 @@
 -- The sink has the first line.
-use Rattle.fit_stream.proofs.Common.{◌≡◌, ◌∙◌, [], ◌++◌, None, ap, sym, subst, append-nil, refl, Appends, Global, chain_limit, IsViable, Stands, ToldSoFar}
+use Rattle.fit_stream.proofs.Common.{◌≡◌, ◌∙◌, [], ◌++◌, None, ap, sym, subst, append-nil, Global, chain_limit, IsViable, Stands, ToldSoFar}
 use Rattle.fit_decode.proofs.FileRead.{nothing_viable}
 use Rattle.fit_report.proofs.Outcomes.{stands_before}
 use Rattle.fit_stream.proofs.Flowing.{kept_first}

@@ -6,8 +6,8 @@ use Rattle.fit_csv.proofs.from.judge.RowJudge.take_rest.Goals as goal
 pub loop-init : goal.loop-init
 loop-init c = record { judged = c.requires; more = omega (arith, c.requires.counted) }
 
-pub take_some-requires : goal.take_some-requires
-take_some-requires c = c.loop.invariant.judged
+pub take_record_or_rows-requires : goal.take_record_or_rows-requires
+take_record_or_rows-requires c = c.loop.invariant.judged
 
 pub returns-in_err-rest-clause-err : goal.returns-in_err-rest-clause-err
 returns-in_err-rest-clause-err c =
@@ -16,14 +16,18 @@ returns-in_err-rest-clause-err c =
 
 pub whole_files-requires : goal.whole_files-requires
 whole_files-requires c =
-    omega (arith, few-rows c.args.whole.now _ c.take_some.new.self.chain c.take_some.new.self.rows (rw c.in_default.is at c.in_ok-rest.ensures.judged))
+    omega (
+      arith,
+      few-rows c.args.whole.now _ c.take_record_or_rows.new.self.chain c.take_record_or_rows.new.self.rows
+          (rw c.in_default.is at c.in_ok-rest.ensures.judged),
+    )
 
 pub returns-in_default-clause-ok : goal.returns-in_default-clause-ok
 returns-in_default-clause-ok c =
     let judged = rw c.in_default.is at c.in_ok-rest.ensures.judged in
     MatchResult-weaker c.whole_files.result c.whole_files.ensures.ok
     (λ files h. subst (λ (l : List (FitFile Global)). AreFilesOf c.args.whole.now l) (sym h.1)
-    (all-judged c.args.whole.now c.take_some.new.self.chain c.take_some.new.self.rows judged h.0
+    (all-judged c.args.whole.now c.take_record_or_rows.new.self.chain c.take_record_or_rows.new.self.rows judged h.0
     (subst (λ (l : List (FitFile Global)). 0 < length l) h.1 h.2)))
     (λ fault p. p)
 
@@ -32,7 +36,7 @@ returns-in_default-clause-err c =
     let judged = rw c.in_default.is at c.in_ok-rest.ensures.judged in
     MatchResult-weaker c.whole_files.result c.whole_files.ensures.err (λ files p. p)
     (λ fault h. subst (λ (f : CsvFault). IsTextFault c.args.whole.now f) (sym h.0)
-    (cut-off-after c.text_has_one_number.ensures c.args.whole.now c.take_some.new.self.chain c.take_some.new.self.rows judged h.1))
+    (cut-off-after c.text_has_one_number.ensures c.args.whole.now c.take_record_or_rows.new.self.chain c.take_record_or_rows.new.self.rows judged h.1))
 
 pub loop-preserved : goal.loop-preserved
 loop-preserved c =

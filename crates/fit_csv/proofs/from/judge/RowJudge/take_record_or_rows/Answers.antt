@@ -1,7 +1,7 @@
 use Rattle.fit_csv.proofs.Common.{[], arith, sym, subst, refl, err_from_is_err_and, IsTextFault}
 use Rattle.std.proofs.Common.{ℕ, ◌<◌, IfOk, IfSome}
 use Rattle.fit_csv.proofs.JudgedRows.{before-it, few-rows, judged-sound, judges-whole}
-use Rattle.fit_csv.proofs.from.judge.RowJudge.take_some.Goals as goal
+use Rattle.fit_csv.proofs.from.judge.RowJudge.take_record_or_rows.Goals as goal
 
 pub take_record-requires-clause-sound : goal.take_record-requires-clause-sound
 take_record-requires-clause-sound c = judged-sound c.args.whole.now c.args.left.now c.args.self.now.chain c.args.self.now.rows c.requires

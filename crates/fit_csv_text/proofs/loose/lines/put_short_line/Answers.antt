@@ -2,7 +2,7 @@ use Rattle.std.proofs.Common.{◌+◌, ◌-◌, ◌++◌, arith, drop, length, s
 use Rattle.fit_csv_text.specs.inner.Loose.{StandsFor}
 use Rattle.fit_csv_text.proofs.PlainTexts.{plain-after-line, plain-left}
 use Rattle.fit_csv_text.proofs.ShortLines.{end-goes, front-goes, front-stays}
-use Rattle.fit_csv_text.proofs.loose.lines.put_some.Goals as goal
+use Rattle.fit_csv_text.proofs.loose.lines.put_short_line.Goals as goal
 
 pub returns-then-shown-eq-LINE_SIZE-clause-goes : goal.returns-then-shown-eq-LINE_SIZE-clause-goes
 returns-then-shown-eq-LINE_SIZE-clause-goes c old text rows ends stands =

@@ -2,7 +2,7 @@ use Rattle.std.proofs.Common.{sym, subst, List, ℕ}
 use Rattle.std.proofs.lemmas.Result.{MatchResult-weaker}
 use Rattle.fit_csv_text.proofs.PlainTexts.{quote-not-plain}
 use Rattle.fit_csv_text.specs.inner.Loose.{WritesOn}
-use Rattle.fit_csv_text.proofs.loose.take_some.Goals as goal
+use Rattle.fit_csv_text.proofs.loose.take_one.Goals as goal
 
 pub returns-in-Some-clause-goes : goal.returns-in-Some-clause-goes
 returns-in-Some-clause-goes c =

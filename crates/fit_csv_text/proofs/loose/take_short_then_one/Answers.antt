@@ -1,7 +1,7 @@
 use Rattle.std.proofs.Common.{arith, length}
 use Rattle.std.proofs.lemmas.Result.{IfOk-from_err, MatchResult-weaker, err_from_is_err_and}
 use Rattle.fit_csv_text.proofs.PlainTexts.{some-left}
-use Rattle.fit_csv_text.proofs.loose.take_more.Goals as goal
+use Rattle.fit_csv_text.proofs.loose.take_short_then_one.Goals as goal
 
 pub returns-in_err-left-clause-room : goal.returns-in_err-left-clause-room
 returns-in_err-left-clause-room c plain small most =
@@ -10,13 +10,13 @@ returns-in_err-left-clause-room c plain small most =
 
 pub returns-clause-more : goal.returns-clause-more
 returns-clause-more c small =
-    MatchResult-weaker c.take_some.result c.take_some.ensures.grows (λ left h some. omega (arith, c.in_ok-left.ensures.long, h.0)) (λ e p. p)
+    MatchResult-weaker c.take_one.result c.take_one.ensures.grows (λ left h some. omega (arith, c.in_ok-left.ensures.long, h.0)) (λ e p. p)
 
 pub returns-clause-few : goal.returns-clause-few
-returns-clause-few c fits = MatchResult-weaker c.take_some.result c.take_some.ensures.grows (λ left h. h.1) (λ e p. p)
+returns-clause-few c fits = MatchResult-weaker c.take_one.result c.take_one.ensures.grows (λ left h. h.1) (λ e p. p)
 
 pub returns-clause-lines : goal.returns-clause-lines
-returns-clause-lines c plain = c.take_some.ensures.lines (c.in_ok-left.ensures.lines plain)
+returns-clause-lines c plain = c.take_one.ensures.lines (c.in_ok-left.ensures.lines plain)
 
 pub returns-in_err-left-clause-goes : goal.returns-in_err-left-clause-goes
 returns-in_err-left-clause-goes c = IfOk-from_err c.from_residual.result _ c.from_residual.ensures.0
@@ -41,11 +41,11 @@ returns-then-is_empty-clause-lines c = c.in_ok-left.ensures.lines
 
 pub returns-clause-goes : goal.returns-clause-goes
 returns-clause-goes c =
-    MatchResult-weaker c.take_some.result c.take_some.ensures.goes
+    MatchResult-weaker c.take_one.result c.take_one.ensures.goes
     (λ left h text rows ends stands. h text rows ends (c.in_ok-left.ensures.goes text rows ends stands)) (λ e p. p)
 
 pub returns-clause-room : goal.returns-clause-room
 returns-clause-room c plain small most =
-    c.take_some.ensures.room (c.in_ok-left.ensures.lines plain)
+    c.take_one.ensures.room (c.in_ok-left.ensures.lines plain)
     (some-left (length c.in_ok-left.left.now) c.is_empty.result c.is_empty.ensures c.if-is_empty.false)
     (omega (arith, most, c.len.ensures, c.if-len-many.false))
