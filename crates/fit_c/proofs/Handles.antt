@@ -2,13 +2,13 @@
 use Rattle.std.proofs.Common.{◌≡◌, ℕ, List, [], ◌∷◌, ◌++◌, refl, subst}
 use seplogic.Ra.Ura.{Ura}
 use mir.Raw.{raw as bare}
-use mir.Val.{Val, vptr, vstruct, vcons, vnil, of_list}
-use base.Logic.{ent, via, never, fst∗, snd∗, guard, guard_i}
+use mir.Val.{Val, vstruct, vcons, vnil, of_list}
+use base.Logic.{via, never, fst∗, snd∗, guard_i}
 use base.Fml.{Fml}
 use types.Logic.{Logic, sem}
 use types.Kit.{Item, Goal, Seq, Step, step, ‵, given, ◌$◌, drop, learn, use1, fsplit, fjoin, fpick, fpack, feq_i, feq_l}
-use contract.Monad.{fact, fact_use}
-use denote.RattleType.{RattleType, Valss}
+use contract.Monad.{fact_use}
+use denote.RattleType.{Valss}
 use denote.Builtin.{RawPtr}
 use denote.Memory.{lone}
 use denote.RawPtr.{Ptr, block_ptr, null_ptr, ptr_val, in_a_block, Testable}

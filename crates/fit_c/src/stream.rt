@@ -14,7 +14,8 @@ use std::alloc::Global;
 
 /// The kind of a number.
 fn kind_of(number: u32) -> Option<Kind>
-    ensures { MatchOption result ((k : Kinds) → number ≢ stream_kind k) (λ k. number ≡ stream_kind k) }
+    ensures { MatchOption result ((k : Kinds) → number ≢ stream_kind k)
+        (λ k. number ≡ stream_kind k) }
 {
     match number {
         0 => Some(Kind::Check),

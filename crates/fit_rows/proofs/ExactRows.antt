@@ -1,6 +1,6 @@
 -- Data messages in texts that begin with their rows.
-use Rattle.fit_rows.proofs.Common.{◌≡◌, ◌∙◌, ◌++◌, ◌∷◌, [], false, length, get_or, refl, sym, ap, ap₂, subst, append_assoc, arith, length-map, IsSomeAnd}
-use Rattle.fit_rows.proofs.Common.{Global, Items, Defined, Record, Values, Data, MessageDef, defined_at, known, dev_layout, layout, header_time}
+use Rattle.fit_rows.proofs.Common.{◌≡◌, ◌∙◌, ◌++◌, ◌∷◌, [], length, refl, sym, ap, ap₂, subst, append_assoc, arith, length-map, IsSomeAnd}
+use Rattle.fit_rows.proofs.Common.{Global, Items, Defined, Record, Values, Data, defined_at, known, dev_layout, layout, header_time}
 use Rattle.fit_rows.proofs.Common.{previous_time, DataFits, Fits, HaveShape, default_writer, field_text, csv_text, text_append, High, high-decimal}
 use Rattle.fit_rows.proofs.Common.{unquoted, optional_number}
 use Rattle.fit_rows.proofs.Common.{row, Row, message_label, instant_text, data_rows, MessageKey, end_of, frame_keys, frame_slots}

@@ -17,7 +17,7 @@ mod exact;
 use crate::likely::likely_definition;
 use crate::maker::RowMaker;
 use crate::message::put_message;
-use crate::template::likely::likely_byte;
+use crate::template::likely::likely_short_number;
 use crate::whole::exact::exact_message;
 use fit_encode::spell;
 use fit_profile::Stream;
@@ -64,7 +64,7 @@ fn likely_message<'a>(
     requires { AreCurrent message_key maker.old.templates before.now }
     ensures { AreCurrent message_key maker.new.templates before.now }
 {
-    let (local, _) = likely_byte(text.strip_prefix(b"data,")?);
+    let (local, _) = likely_short_number(text.strip_prefix(b"data,")?);
     let local = local?;
     let defined = before.env().defined(local)?;
     maker.keep_template(before, local, defined).ok()?;

@@ -24,11 +24,12 @@ unfoldable pub use Rattle.fit_cells.specs.Rows.{csv_text, NoneEmpty}
 pub use Rattle.fit_chain.specs.Events.{Event, file_events, item, file_end}
 pub use Rattle.fit_numbers.specs.FixedText.{fixed_text}
 unfoldable pub use Rattle.fit_numbers.specs.FixedText.{last_digits}
+pub use Rattle.fit_profile.specs.KnownNumber.{known_number}
 pub use Rattle.fit_profile.specs.Looks.{known, first_field}
 pub use Rattle.fit_profile.specs.Names.{field}
 pub use Rattle.fit_profile.specs.Profile.{Meaning}
 pub use Rattle.fit_numbers.specs.Scaled.{IsDegrees, IsScale}
-pub use Rattle.fit_profile.specs.Values.{IsValueOf, first_number, known_number, valid_number}
+pub use Rattle.fit_profile.specs.Values.{IsValueOf, first_number, valid_number}
 pub use Rattle.fit_numbers.specs.declared.decimal.Fixed.{Fixed}
 pub use Rattle.fit_record.specs.Environment.{defined_at}
 pub use Rattle.fit_record.specs.Records.{dev_layout, layout}

@@ -11,10 +11,11 @@ use Rattle.fit_record.specs.Faults.{or_else}
 use Rattle.fit_chain.specs.Events.{Event, header, item, file_end}
 use Rattle.fit_profile.specs.declared.told.Told.{Told}
 use Rattle.fit_numbers.specs.FixedText.{fixed_text}
+use Rattle.fit_profile.specs.KnownNumber.{known_number}
 use Rattle.fit_profile.specs.Looks.{known, first_field}
 use Rattle.fit_numbers.specs.Scaled.{decimals}
 use Rattle.fit_profile.specs.Told.{told}
-use Rattle.fit_profile.specs.Values.{first_number, known_number}
+use Rattle.fit_profile.specs.Values.{first_number}
 use Rattle.fit_cells.specs.Cells.{scaled_value}
 use Rattle.fit_table.specs.Degrees.{degrees_of}
 use Rattle.fit_texts.specs.InstantText.{instant_text}

@@ -45,7 +45,7 @@ impl Place {
         bits_at(order, self.form.width, item)
     }
 
-    /// The same place, of whose kind the base type and the form are.
+    /// This place with the base type and the form of a kind, which are its own.
     #[inline(always)]
     pub(crate) fn of_kind(&self, kind: Kind) -> Place
         requires known { IsOfKind self.now.kind self.now.field.code self.now.form }

@@ -102,7 +102,7 @@ fn put_counted(
 }
 
 /// Puts the row of a record message of a file from its bytes after the records of a stream, by its columns, where its numbers can be
-/// read there. Whether it did.
+/// read there, and returns whether they can.
 fn put_by(
     text: &mut Vec<u8>,
     rows: &mut TableRowMaker,
@@ -192,7 +192,7 @@ fn renew(
 }
 
 /// Puts the row of a record message of a file from its bytes after the records of a stream, by columns that are found out and kept,
-/// where its numbers can be read there. Whether it did.
+/// where its numbers can be read there, and returns whether they can.
 #[cold]
 #[inline(never)]
 fn put_by_new(
@@ -245,8 +245,8 @@ fn kept_columns<'a>(
     None
 }
 
-/// Puts the row of a record message of a file from its bytes after the records of a stream, where its numbers can be read there. Whether
-/// it did.
+/// Puts the row of a record message of a file from its bytes after the records of a stream, where its numbers can be read there, and
+/// returns whether they can.
 pub(crate) fn put_message_row(
     text: &mut Vec<u8>,
     maker: &mut TableMaker,

@@ -67,7 +67,7 @@ fn take_record(
     put_text(text, rows, &message, file)
 }
 
-/// Puts the text of the row of the data message that the bytes are, where it can be made of these. Whether it did.
+/// Puts the text of the row of the data message that the bytes are, where it can be made of these, and returns whether it can.
 #[tactic(auto, using(fit_cells::proofs::AddedRows::text_none))]
 fn put_message(
     text: &mut Vec<u8>,

@@ -5,7 +5,7 @@ use fit_frames::after;
 use std::alloc::Global;
 
 /// The number of at most three digits with which a text may begin, where it does with a digit, and how many they are.
-pub(crate) fn likely_byte(text: &[u8]) -> (Option<u8>, usize) {
+pub(crate) fn likely_short_number(text: &[u8]) -> (Option<u8>, usize) {
     let mut number = None;
     for (place, byte) in text.iter().enumerate() {
         let digit = byte.wrapping_sub(b'0');
@@ -38,7 +38,7 @@ impl Template {
         text: &'a [u8],
     ) -> Option<&'a [u8]> {
         let after_front = text.get(self.front.len()..)?;
-        let (offset, _) = likely_byte(after_front);
+        let (offset, _) = likely_short_number(after_front);
         let mut rest = match offset {
             Some(_) => after(after_front, b'\n')?,
             None => text.get(self.line.len()..)?,

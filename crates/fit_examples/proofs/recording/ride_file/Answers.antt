@@ -1,5 +1,5 @@
 -- Each call that is good has written the bytes of its part of the file.
-use Rattle.fit_examples.proofs.Common.{◌∷◌, ◌++◌, [], ap, arith, subst, take, ◌∙◌, err_from_is_err_and, header_bytes, Encoding, ride_records}
+use Rattle.fit_examples.proofs.Common.{◌∷◌, ◌++◌, [], ap, arith, subst, take, ◌∙◌, err_from_is_err_and, header_bytes, Encoding, ride_records, refl}
 use Rattle.std.proofs.Math.Seq.{take-length}
 use Rattle.fit_examples.proofs.Holding.{Holds, is_recording, holds_more, next_message}
 use Rattle.fit_examples.proofs.RideFaults.{end_fault, message_fault}
@@ -45,3 +45,6 @@ returns-in_err-finish-clause-err c =
     (omega arith) c.in-Some.ensures.some c.loop-point.invariant c.in_err-finish.ensures.refused in
     let p = err_from_is_err_and c.from_residual-in_err-finish.result c.from_residual-in_err-finish.ensures.1 in
     rw (p.1, p.2) fault
+
+pub returns-in_default-clause-err : goal.returns-in_default-clause-err
+returns-in_default-clause-err c = let over = c.in_default.ensures.none refl in (refl, omega arith, omega arith, omega arith)

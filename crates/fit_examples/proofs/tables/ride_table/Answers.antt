@@ -1,3 +1,4 @@
+use Rattle.std.proofs.Common.{rules}
 use Rattle.fit_examples.proofs.Common.{false, Some, refl, flat_map, err_from_is_err_and, slice_is_bytes, file_events}
 use Rattle.fit_report.specs.Reports.{Channel}
 use Rattle.fit_table.specs.Table.{table_of}
@@ -18,3 +19,9 @@ returns-in_err-table-clause-fault c =
     let p = err_from_is_err_and c.from_residual.result c.from_residual.ensures.1 in
     let sink : Channel = record { before = c.new-sink.result.held; after = c.table.new.sink.held; failed = c.table.new.sink.failed } in
     rw (p.1, p.2) (table_fault table_of c.args.ride.now c.table.new.source.now sink c.in_err-table.field-0.0 c.in_err-table.ensures.converts)
+
+pub returns-clause-good : goal.returns-clause-good
+returns-clause-good c = search rules
+
+pub returns-clause-rows : goal.returns-clause-rows
+returns-clause-rows c = search rules

@@ -1,6 +1,6 @@
 -- What is fed is a front of the upload, and at the end all of it.
 use Rattle.fit_examples.proofs.Common.{◌^◌, ◌<◌, length, rules, subst, sym, ◌∙◌, eqb-true, slice_is_bytes, IsFaultOf, LacksMemoryAt, bad_end, good_end, stopped}
-use Rattle.fit_examples.proofs.Common.{stopped_at, stops, chain_end, fault_of_chain}
+use Rattle.fit_examples.proofs.Common.{stopped_at, stops, chain_end, fault_of_chain, Feeds, feeds_on}
 use Rattle.fit_examples.proofs.upload.check_upload.Goals as goal
 
 pub returns-in-Err-clause-fault : goal.returns-in-Err-clause-fault
@@ -38,3 +38,9 @@ returns-clause-fault c =
 pub returns-clause-memory : goal.returns-clause-memory
 returns-clause-memory c =
     chain_end c.args.upload.now c.finish.result (slice_is_bytes c.args.upload.now c.type_inv.upload) (returns-clause-fault c)
+
+pub loop-rest-preserved : goal.loop-rest-preserved
+loop-rest-preserved c =
+    subst (Feeds c.args.upload.now c.feed.new.self) (sym c.split_at.ensures.back)
+    (feeds_on c.args.upload.now c.loop-rest.decoder c.feed.new.self c.loop-rest.rest.now c.in-Ok.fed.used c.loop-rest.invariant
+    c.in-Ok.ensures.used.1 c.in-Ok.ensures.viable)

@@ -1,4 +1,4 @@
-use Rattle.fit_rows.proofs.Common.{◌≡◌, ◌∙◌, ◌+◌, ◌++◌, [], length, take, sym, ap, subst, arith, Data, csv_text, data_rows, known}
+use Rattle.fit_rows.proofs.Common.{◌≡◌, ◌∙◌, ◌+◌, ◌++◌, [], length, take, sym, ap, subst, arith, Data, csv_text, data_rows}
 use Rattle.std.proofs.Common.{List, ℕ}
 use Rattle.std.proofs.lemmas.List.{append-nil, take_all}
 use Rattle.std.proofs.lemmas.Option.{IfSome_then}

@@ -1,9 +1,8 @@
 -- `closed` makes a null pointer, which owns nothing.
-use Rattle.std.proofs.Common.{[], ◌∷◌, List, refl, Option, None, ◌≡◌, lit<}
+use Rattle.std.proofs.Common.{[], ◌∷◌, refl, Option, None, ◌≡◌, lit<}
 use mir.Val.{Val, vnull}
 use base.Logic.{SProp, emp}
-use prog.Wp.{WpFn}
-use types.Kit.{‵, raw, ◌⊛◌, ◌$◌, ◌∵◌, !, qed, by, move, keep, drop, split, use0, fjoin, feq_i}
+use types.Kit.{‵, raw, ◌⊛◌, ◌$◌, ◌∵◌, !, qed, by, keep, split, use0, feq_i}
 use types.Run.{lit, no_more, and_then, returns, enter}
 use types.ByLocal.{alloc_all, pass_all, free_all, look_at, sets}
 use types.Part.{agg}

@@ -1,6 +1,6 @@
-use Rattle.fit_frames.proofs.Common.{◌≡◌, ◌∙◌, ◌+◌, ◌++◌, ◌∷◌, [], sym, ap, subst, drop, Global, Items}
+use Rattle.fit_frames.proofs.Common.{◌≡◌, ◌∙◌, ◌+◌, ◌++◌, ◌∷◌, [], sym, ap, arith, subst, drop, Global, Items}
 use Rattle.fit_frames.specs.Bare.{StandBare}
-use Rattle.fit_frames.proofs.BareItems.{next}
+use Rattle.fit_frames.proofs.BareItems.{next, whole}
 use Rattle.fit_frames.proofs.frames.exact.exact_items.Goals as goal
 
 pub returns-in_default : goal.returns-in_default
@@ -20,3 +20,7 @@ loop-frame-preserved c all left h =
       n.3.1 ∙ ap (λ r. r ++ n.3.0) (sym (c.in_ok-push.ensures.ok ∙ ap (λ (i : Items Global). read ++ i ∷ []) same.0)),
       subst (λ t. StandBare (drop (c.loop-frame.frame-index + 1) frames) n.3.0 t left) (sym same.1) n.3.2,
     )
+
+pub returns : goal.returns
+returns c all left h =
+    whole c.args.frames.now c.loop-frame.frame-index all c.loop-frame.all c.loop-frame.rest.now left (omega arith) (c.loop-frame.invariant all left h)
