@@ -18,7 +18,6 @@ use fit_encode::CutSink;
 use fit_run::{Command, run};
 use std::alloc::Global;
 use std::process::Abort;
-use std::test::Fail;
 use test_known::{
     BOTH_ORDERS_SHOWN as TWO_MESSAGES_SHOWN, BOTH_ORDERS_TEXT as TWO_MESSAGES_TEXT,
     DEVELOPER_FIELD_SHOWN, DEVELOPER_FIELD_TEXT, EMPTY_TEXT, LONG_TEXT, TABLE_HEAD,
@@ -53,13 +52,26 @@ const DEVELOPER_FIELD: &str =
     "0E 20 00 00 36 00 00 00 2E 46 49 54 1F BB 40 00 00 CE 00 04 00 01 02 01 01 02 02 01 02 03 03 07 \
      61 00 00 14 00 00 01 05 02 00 01 34 12 00 00 05 84 6D 6F 00 01 34 12 61 00 00 14 00 00 01 05 02 00 01 34 12 4A 8B";
 
-/// The bytes that two hexadecimal digits each stand for.
-fn bytes_of(alloc: Global, text: &str) -> Result<Vec<u8>, Fail> {
-    let mut bytes = Vec::new(alloc);
+/// Adds the bytes that two hexadecimal digits each stand for.
+fn add_bytes(rt: &impl Abort, bytes: &mut Vec<u8>, text: &str) {
     for word in text.split_whitespace() {
-        bytes.push(u8::from_str_radix(word, 16)?)?;
+        let byte = u8::from_str_radix(word, 16).expect(rt, "two digits");
+        bytes.push(byte).expect(rt, "memory");
     }
-    Ok(bytes)
+}
+
+/// The bytes of some texts, one after another.
+fn chain_of(rt: &impl Abort, alloc: Global, texts: &[&str]) -> Vec<u8> {
+    let mut bytes = Vec::new(alloc);
+    for text in texts {
+        add_bytes(rt, &mut bytes, text);
+    }
+    bytes
+}
+
+/// The bytes that two hexadecimal digits each stand for.
+fn bytes_of(rt: &impl Abort, alloc: Global, text: &str) -> Vec<u8> {
+    chain_of(rt, alloc, &[text])
 }
 
 /// What a command writes, what it writes of faults, and its status.
@@ -87,6 +99,22 @@ fn expect(rt: &impl Abort, answer: &Answer, name: &str, output: &[u8], faults: &
     equal_at(rt, &answer.output.bytes(), &output, &name);
     equal_at(rt, &answer.faults.bytes(), &faults.as_bytes(), &name);
     equal_at(rt, &answer.status, &status, &name);
+}
+
+/// Asserts what a command writes of the bytes of a text, and its status.
+fn expect_of(
+    rt: &impl Abort,
+    alloc: Global,
+    command: Command,
+    input: &str,
+    output: &str,
+    faults: &str,
+    status: u8,
+) {
+    let bytes = bytes_of(rt, alloc, input);
+    let mut source = bytes.as_slice();
+    let answer = answer_of(alloc, command, &mut source, 2048);
+    expect(rt, &answer, input, output.as_bytes(), faults, status);
 }
 
 /// Asserts the text of some bytes, and that it gives them back.

@@ -1,10 +1,11 @@
 //! Known files and what they are as text. The suites and the programs of the tests take their inputs from here.
 #![tactic(auto)]
 
+mod big;
 pub mod fields;
 pub mod protocol;
 
-use std::alloc::{AllocError, Global};
+pub use big::{LONGEST, longest};
 
 /// A file, or a chain of files, and what is made of it.
 #[derive(Clone, Copy)]
@@ -237,150 +238,142 @@ pub const BOTH_TEXT: &str = "row,a,b,c,d,e,f\n\
      dev,mo,4660,,,,\n\
      end,,,,,,\n";
 
+const KNOWN_EMPTY: Known = Known {
+    name: "empty",
+    bytes: &EMPTY,
+    first: 16,
+    ends: &[(14, 0, 1, 2, 0), (16, 1, 1, 3, 0)],
+    checked: "file 1: 0 data bytes, 0 records\nok\n",
+    shown: EMPTY_SHOWN,
+    text: EMPTY_TEXT,
+    table: "",
+};
+
+const KNOWN_ZEROS: Known = Known {
+    name: "zeros",
+    bytes: &EMPTY_WITH_ZEROS,
+    first: 16,
+    ends: &[(14, 0, 1, 2, 0), (16, 1, 1, 3, 0)],
+    checked: "file 1: 0 data bytes, 0 records\nok\n",
+    shown: EMPTY_WITH_ZEROS_SHOWN,
+    text: EMPTY_WITH_ZEROS_TEXT,
+    table: "",
+};
+
+const KNOWN_SHORT: Known = Known {
+    name: "short",
+    bytes: &SHORT,
+    first: 14,
+    ends: &[(12, 0, 1, 2, 0), (14, 1, 1, 3, 0)],
+    checked: "file 1: 0 data bytes, 0 records\nok\n",
+    shown: SHORT_SHOWN,
+    text: SHORT_TEXT,
+    table: "",
+};
+
+const KNOWN_LONG: Known = Known {
+    name: "long",
+    bytes: &LONG,
+    first: 18,
+    ends: &[(16, 0, 1, 2, 0), (18, 1, 1, 3, 0)],
+    checked: "file 1: 0 data bytes, 0 records\nok\n",
+    shown: LONG_SHOWN,
+    text: LONG_TEXT,
+    table: "",
+};
+
+const KNOWN_MESSAGE: Known = Known {
+    name: "message",
+    bytes: &ONE_BYTE_MESSAGE,
+    first: 23,
+    ends: &[
+        (14, 0, 1, 2, 0),
+        (20, 0, 2, 3, 0),
+        (21, 0, 3, 4, 1),
+        (23, 1, 3, 5, 1),
+    ],
+    checked: "file 1: 7 data bytes, 2 records\nok\n",
+    shown: ONE_BYTE_MESSAGE_SHOWN,
+    text: ONE_BYTE_MESSAGE_TEXT,
+    table: "1,,,,,,,,,,\n",
+};
+
+const KNOWN_ORDERS: Known = Known {
+    name: "orders",
+    bytes: &BOTH_ORDERS,
+    first: 52,
+    ends: &[
+        (14, 0, 1, 2, 0),
+        (26, 0, 2, 5, 0),
+        (32, 0, 3, 8, 1),
+        (44, 0, 4, 11, 1),
+        (50, 0, 5, 14, 2),
+        (52, 1, 5, 15, 2),
+    ],
+    checked: "file 1: 36 data bytes, 4 records\nok\n",
+    shown: BOTH_ORDERS_SHOWN,
+    text: BOTH_ORDERS_TEXT,
+    table: "1,2021-09-08T01:47:11Z,,,,,,120,,,\n1,2021-09-08T01:47:14Z,,,0.0,16.0000,1.00,,,,\n",
+};
+
+const KNOWN_DEVELOPER: Known = Known {
+    name: "developer",
+    bytes: &DEVELOPER_FIELD,
+    first: 70,
+    ends: &[
+        (14, 0, 1, 2, 0),
+        (32, 0, 2, 7, 0),
+        (42, 0, 3, 9, 0),
+        (45, 0, 4, 11, 1),
+        (52, 0, 5, 16, 1),
+        (55, 0, 6, 18, 2),
+        (65, 0, 7, 20, 2),
+        (68, 0, 8, 22, 3),
+        (70, 1, 8, 23, 3),
+    ],
+    checked: "file 1: 54 data bytes, 7 records\nok\n",
+    shown: DEVELOPER_FIELD_SHOWN,
+    text: DEVELOPER_FIELD_TEXT,
+    table: "1,,,,,,,,,,\n1,,,,,,,,,,\n1,,,,,,,,,,\n",
+};
+
+const KNOWN_BOTH: Known = Known {
+    name: "both",
+    bytes: &BOTH,
+    first: 52,
+    ends: &[
+        (14, 0, 1, 2, 0),
+        (26, 0, 2, 5, 0),
+        (32, 0, 3, 8, 1),
+        (44, 0, 4, 11, 1),
+        (50, 0, 5, 14, 2),
+        (52, 1, 5, 15, 2),
+        (66, 1, 6, 16, 2),
+        (84, 1, 7, 21, 2),
+        (94, 1, 8, 23, 2),
+        (97, 1, 9, 25, 3),
+        (104, 1, 10, 30, 3),
+        (107, 1, 11, 32, 4),
+        (117, 1, 12, 34, 4),
+        (120, 1, 13, 36, 5),
+        (122, 2, 13, 37, 5),
+    ],
+    checked: "file 1: 36 data bytes, 4 records\nfile 2: 54 data bytes, 7 records\nok\n",
+    shown: BOTH_SHOWN,
+    text: BOTH_TEXT,
+    table: "1,2021-09-08T01:47:11Z,,,,,,120,,,\n1,2021-09-08T01:47:14Z,,,0.0,16.0000,1.00,,,,\n2,,,,,,,,,,\n2,,,,,,,,,,\n2,,,,,,,,,,\n",
+};
+
 /// The known files, and a chain of the last two.
 pub fn files() -> [Known; 8] {
     [
-        Known {
-            name: "empty",
-            bytes: &EMPTY,
-            first: 16,
-            ends: &[(14, 0, 1, 2, 0), (16, 1, 1, 3, 0)],
-            checked: "file 1: 0 data bytes, 0 records\nok\n",
-            shown: EMPTY_SHOWN,
-            text: EMPTY_TEXT,
-            table: "",
-        },
-        Known {
-            name: "zeros",
-            bytes: &EMPTY_WITH_ZEROS,
-            first: 16,
-            ends: &[(14, 0, 1, 2, 0), (16, 1, 1, 3, 0)],
-            checked: "file 1: 0 data bytes, 0 records\nok\n",
-            shown: EMPTY_WITH_ZEROS_SHOWN,
-            text: EMPTY_WITH_ZEROS_TEXT,
-            table: "",
-        },
-        Known {
-            name: "short",
-            bytes: &SHORT,
-            first: 14,
-            ends: &[(12, 0, 1, 2, 0), (14, 1, 1, 3, 0)],
-            checked: "file 1: 0 data bytes, 0 records\nok\n",
-            shown: SHORT_SHOWN,
-            text: SHORT_TEXT,
-            table: "",
-        },
-        Known {
-            name: "long",
-            bytes: &LONG,
-            first: 18,
-            ends: &[(16, 0, 1, 2, 0), (18, 1, 1, 3, 0)],
-            checked: "file 1: 0 data bytes, 0 records\nok\n",
-            shown: LONG_SHOWN,
-            text: LONG_TEXT,
-            table: "",
-        },
-        Known {
-            name: "message",
-            bytes: &ONE_BYTE_MESSAGE,
-            first: 23,
-            ends: &[
-                (14, 0, 1, 2, 0),
-                (20, 0, 2, 3, 0),
-                (21, 0, 3, 4, 1),
-                (23, 1, 3, 5, 1),
-            ],
-            checked: "file 1: 7 data bytes, 2 records\nok\n",
-            shown: ONE_BYTE_MESSAGE_SHOWN,
-            text: ONE_BYTE_MESSAGE_TEXT,
-            table: "1,,,,,,,,,,\n",
-        },
-        Known {
-            name: "orders",
-            bytes: &BOTH_ORDERS,
-            first: 52,
-            ends: &[
-                (14, 0, 1, 2, 0),
-                (26, 0, 2, 5, 0),
-                (32, 0, 3, 8, 1),
-                (44, 0, 4, 11, 1),
-                (50, 0, 5, 14, 2),
-                (52, 1, 5, 15, 2),
-            ],
-            checked: "file 1: 36 data bytes, 4 records\nok\n",
-            shown: BOTH_ORDERS_SHOWN,
-            text: BOTH_ORDERS_TEXT,
-            table: "1,2021-09-08T01:47:11Z,,,,,,120,,,\n1,2021-09-08T01:47:14Z,,,0.0,16.0000,1.00,,,,\n",
-        },
-        Known {
-            name: "developer",
-            bytes: &DEVELOPER_FIELD,
-            first: 70,
-            ends: &[
-                (14, 0, 1, 2, 0),
-                (32, 0, 2, 7, 0),
-                (42, 0, 3, 9, 0),
-                (45, 0, 4, 11, 1),
-                (52, 0, 5, 16, 1),
-                (55, 0, 6, 18, 2),
-                (65, 0, 7, 20, 2),
-                (68, 0, 8, 22, 3),
-                (70, 1, 8, 23, 3),
-            ],
-            checked: "file 1: 54 data bytes, 7 records\nok\n",
-            shown: DEVELOPER_FIELD_SHOWN,
-            text: DEVELOPER_FIELD_TEXT,
-            table: "1,,,,,,,,,,\n1,,,,,,,,,,\n1,,,,,,,,,,\n",
-        },
-        Known {
-            name: "both",
-            bytes: &BOTH,
-            first: 52,
-            ends: &[
-                (14, 0, 1, 2, 0),
-                (26, 0, 2, 5, 0),
-                (32, 0, 3, 8, 1),
-                (44, 0, 4, 11, 1),
-                (50, 0, 5, 14, 2),
-                (52, 1, 5, 15, 2),
-                (66, 1, 6, 16, 2),
-                (84, 1, 7, 21, 2),
-                (94, 1, 8, 23, 2),
-                (97, 1, 9, 25, 3),
-                (104, 1, 10, 30, 3),
-                (107, 1, 11, 32, 4),
-                (117, 1, 12, 34, 4),
-                (120, 1, 13, 36, 5),
-                (122, 2, 13, 37, 5),
-            ],
-            checked: "file 1: 36 data bytes, 4 records\nfile 2: 54 data bytes, 7 records\nok\n",
-            shown: BOTH_SHOWN,
-            text: BOTH_TEXT,
-            table: "1,2021-09-08T01:47:11Z,,,,,,120,,,\n1,2021-09-08T01:47:14Z,,,0.0,16.0000,1.00,,,,\n2,,,,,,,,,,\n2,,,,,,,,,,\n2,,,,,,,,,,\n",
-        },
+        KNOWN_EMPTY,
+        KNOWN_ZEROS,
+        KNOWN_SHORT,
+        KNOWN_LONG,
+        KNOWN_MESSAGE,
+        KNOWN_ORDERS,
+        KNOWN_DEVELOPER,
+        KNOWN_BOTH,
     ]
-}
-
-/// How many bytes of data the longest message and its definition have: 7 and 3 for each field, and 1 and 255 for each field.
-pub const LONGEST: u32 = 1537 + 130_051;
-
-/// A file of a definition of 255 fields and 255 developer fields of 255 bytes each, and of one message. The closing checksum is that of
-/// another program.
-pub fn longest(alloc: Global) -> Result<Vec<u8>, AllocError> {
-    let mut bytes = Vec::from_slice(alloc, b"\x0E\x20\0\0")?;
-    bytes.extend_from_slice(&LONGEST.to_le_bytes())?;
-    bytes.extend_from_slice(b".FIT\0\0\x60\0\0\x14\0\xFF")?;
-    for number in 0..255u8 {
-        bytes.extend_from_slice(&[number, 255, 0x0D])?;
-    }
-    bytes.push(255)?;
-    for number in 0..255u8 {
-        bytes.extend_from_slice(&[number, 255, 0])?;
-    }
-    bytes.push(0)?;
-    for place in 0..130_050u32 {
-        bytes.push((place % 251) as u8)?;
-    }
-    bytes.extend_from_slice(&[0x51, 0x2D])?;
-    Ok(bytes)
 }

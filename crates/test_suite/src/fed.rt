@@ -132,6 +132,7 @@ fn sizes_of_data(rt: HostRuntime) {
 
 #[test]
 fn the_last_byte(rt: HostRuntime) {
+    let cut = b"\x40\0\0\x14\0".as_slice();
     let one = b"\x40\0\0\x14\0\x01\x05".as_slice();
     let two = b"\x40\0\0\x14\0\x02\x05".as_slice();
     let three = b"\x40\0\0\x14\0\x01\x08\x03\x0D".as_slice();
@@ -143,12 +144,7 @@ fn the_last_byte(rt: HostRuntime) {
     let rows = [
         (10, one, 2, Some((21, Reason::NoFit))),
         (10, one, 0, None),
-        (
-            8,
-            b"\x40\0\0\x14\0".as_slice(),
-            1,
-            Some((19, Reason::Overrun)),
-        ),
+        (8, cut, 1, Some((19, Reason::Overrun))),
         (13, dev, 0, Some((23, Reason::NoFit))),
         (13, dev, 1, None),
         (13, dev, 2, Some((23, Reason::Overrun))),
@@ -168,12 +164,8 @@ fn the_last_byte(rt: HostRuntime) {
         (15, small, 2, Some((23, Reason::Overrun))),
     ];
     for (size, data, last, answer) in rows {
-        equal_at(
-            &rt,
-            &refused_last(rt.alloc(), size, data, last),
-            &answer,
-            &(size, last),
-        );
+        let found = refused_last(rt.alloc(), size, data, last);
+        equal_at(&rt, &found, &answer, &(size, last));
     }
 }
 

@@ -11,7 +11,7 @@ use fit_csv::{
     cell_items, cell_text, next_row, put_cell, put_row, row_reader, row_writer, rows_text,
 };
 use fit_profile::field_info;
-use std::alloc::{AllocError, Global};
+use std::alloc::Global;
 use std::process::Abort;
 use test_known::protocol;
 
@@ -161,11 +161,13 @@ fn cells_of_nobody(rt: HostRuntime) {
 }
 
 /// Two rows as text. The first has cells with a comma and a quote, and with a line feed.
-fn text_of_rows(alloc: Global) -> Result<Vec<u8>, AllocError> {
+fn text_of_rows(rt: &impl Abort, alloc: Global) -> Vec<u8> {
     let mut writer = row_writer(Vec::new(alloc));
-    put_row(&mut writer, &[b"dev", b"a,\"b", b"", b"x\ny"])?;
-    put_row(&mut writer, &[b"end", b"", b"", b""])?;
-    rows_text(writer)
+    let first = put_row(&mut writer, &[b"dev", b"a,\"b", b"", b"x\ny"]);
+    first.expect(rt, "memory");
+    let second = put_row(&mut writer, &[b"end", b"", b"", b""]);
+    second.expect(rt, "memory");
+    rows_text(writer).expect(rt, "memory")
 }
 
 #[test]
@@ -189,7 +191,7 @@ fn has_cell(rt: &impl Abort, row: &ByteRecord, place: usize, bytes: &[u8]) {
 
 #[test]
 fn rows_both_ways(rt: HostRuntime) {
-    let text = text_of_rows(rt.alloc()).expect(&rt, "memory");
+    let text = text_of_rows(&rt, rt.alloc());
     equal(
         &rt,
         &text.as_slice(),
@@ -218,25 +220,26 @@ fn rows_of_any_length(rt: HostRuntime) {
 }
 
 /// Rows of 2, 1 and 3 cells, a cell alone, and a row of 2.
-fn rows_and_a_cell(alloc: Global) -> Result<Vec<u8>, AllocError> {
+fn rows_and_a_cell(rt: &impl Abort, alloc: Global) -> Vec<u8> {
     let mut writer = RowWriter::new(alloc);
     let mut text = Vec::new(alloc);
-    writer.put(&mut text, &[b"a".as_slice(), b"b,c".as_slice()])?;
-    writer.put(&mut text, &[b"d".as_slice()])?;
-    writer.put_lone(&mut text, b"e\"f")?;
-    writer.put_lone(&mut text, b"")?;
-    writer.put_lone(&mut text, b"g")?;
-    text.push(b',')?;
-    writer.put(
-        &mut text,
-        &[b"h\n".as_slice(), b"i".as_slice(), b"".as_slice()],
-    )?;
-    Ok(text)
+    let rows: [&[&[u8]]; 2] = [&[b"a", b"b,c"], &[b"d"]];
+    for row in rows {
+        writer.put(&mut text, row).expect(rt, "memory");
+    }
+    let cells: [&[u8]; 3] = [b"e\"f", b"", b"g"];
+    for cell in cells {
+        writer.put_lone(&mut text, cell).expect(rt, "memory");
+    }
+    text.push(b',').expect(rt, "memory");
+    let row: [&[u8]; 3] = [b"h\n", b"i", b""];
+    writer.put(&mut text, &row).expect(rt, "memory");
+    text
 }
 
 #[test]
 fn rows_and_lone_cells(rt: HostRuntime) {
-    let text = rows_and_a_cell(rt.alloc()).expect(&rt, "memory");
+    let text = rows_and_a_cell(&rt, rt.alloc());
     let wanted = b"a,\"b,c\"\nd\n\"e\"\"f\"g,\"h\n\",i,\n";
     assert!(rt; text.as_slice() == wanted.as_slice());
 }

@@ -7,7 +7,7 @@ use fit_encode::EncodeFault;
 use fit_examples::{Moment, check_upload, heart_rates, ride_file, ride_table, written_and_read};
 use fit_frame::{Header, HeaderSum, PROTOCOL_2_0, Reason};
 use fit_record::FitFile;
-use std::alloc::{AllocError, Global};
+use std::alloc::Global;
 use std::process::Abort;
 use test_known::TABLE_HEAD;
 
@@ -53,16 +53,16 @@ fn headers_without_bytes(rt: HostRuntime) {
 }
 
 /// The first two, and the first byte of one that is refused.
-fn chain(alloc: Global) -> Result<Vec<u8>, AllocError> {
-    let mut chain = Vec::from_slice(alloc, &BOTH)?;
-    chain.extend_from_slice(&DESCRIBED)?;
-    chain.push(0x0D)?;
-    Ok(chain)
+fn chain(rt: &impl Abort, alloc: Global) -> Vec<u8> {
+    let mut chain = Vec::from_slice(alloc, &BOTH).expect(rt, "memory");
+    chain.extend_from_slice(&DESCRIBED).expect(rt, "memory");
+    chain.push(0x0D).expect(rt, "memory");
+    chain
 }
 
 #[test]
 fn uploads(rt: HostRuntime) {
-    let chain = chain(rt.alloc()).expect(&rt, "memory");
+    let chain = chain(&rt, rt.alloc());
     for (size, answer) in [
         (0, Err(Fault::Truncated { place: 0 })),
         (51, Err(Fault::Truncated { place: 51 })),

@@ -1,11 +1,11 @@
 //! What flows through streams of each kind, with ample memory.
 
-use crate::asserts::{equal, equal_at};
+use crate::asserts::equal_at;
 use fit_decode::Fault;
 use fit_frame::Reason;
 use fit_report::ReportFault;
 use fit_stream::{Kind, Stream};
-use std::alloc::{AllocError, Global};
+use std::alloc::Global;
 use std::process::Abort;
 use test_known::{BOTH_ORDERS, Known, TABLE_HEAD, files};
 
@@ -202,16 +202,11 @@ fn refuses(rt: &impl Abort, alloc: Global, kind: Kind, known: &Known, bytes: &[u
     equal_at(rt, &(text.len(), answer), &(0, Err(refused)), place);
 }
 
-/// A known file and a byte with which no file begins.
-fn spoiled(alloc: Global) -> Result<Vec<u8>, AllocError> {
-    let mut bytes = Vec::from_slice(alloc, &BOTH_ORDERS)?;
-    bytes.push(1)?;
-    Ok(bytes)
-}
-
 #[test]
-fn a_refused_byte(rt: HostRuntime) -> Result<(), AllocError> {
-    let bytes = spoiled(rt.alloc())?;
+fn a_refused_byte(rt: HostRuntime) {
+    // A known file and a byte with which no file begins.
+    let mut bytes = Vec::from_slice(rt.alloc(), &BOTH_ORDERS).expect(&rt, "memory");
+    bytes.push(1).expect(&rt, "memory");
     for known in files() {
         if known.name == "orders" {
             for kind in [Kind::Check, Kind::Show, Kind::Table, Kind::Rows] {
@@ -219,5 +214,4 @@ fn a_refused_byte(rt: HostRuntime) -> Result<(), AllocError> {
             }
         }
     }
-    Ok(())
 }

@@ -4,7 +4,7 @@ use crate::asserts::equal;
 use crate::conversions::{QUOTED, QUOTED_TEXT};
 use fit_csv::{CsvFault, from_csv};
 use fit_encode::{CutSink, EncodeFault};
-use std::alloc::{AllocError, Global};
+use std::alloc::Global;
 use std::process::Abort;
 use test_known::{BOTH_ORDERS_TEXT, EMPTY, EMPTY_TEXT, LONG_TEXT};
 
@@ -25,23 +25,10 @@ fn give(rt: &impl Abort, alloc: Global, text: &str, bytes: &[u8]) {
     equal(rt, &sink.bytes(), &bytes);
 }
 
-/// A text with one part replaced by another.
-fn with_part(alloc: Global, text: &str, old: &str, new: &str) -> Result<String, AllocError> {
-    let mut changed = String::new(alloc);
-    match text.split_once(old) {
-        Some((front, back)) => {
-            changed.push_str(front)?;
-            changed.push_str(new)?;
-            changed.push_str(back)?;
-        }
-        None => changed.push_str(text)?,
-    }
-    Ok(changed)
-}
-
 /// Asserts the fault of a text with one part replaced by another.
 fn refuse_part(rt: &impl Abort, alloc: Global, text: &str, old: &str, new: &str, fault: CsvFault) {
-    let changed = with_part(alloc, text, old, new).expect(rt, "memory");
+    let (front, back) = text.split_once(old).expect(rt, "such a part");
+    let changed = format!(in alloc; "{front}{new}{back}").expect(rt, "memory");
     refuse(rt, alloc, changed.as_str(), fault);
 }
 

@@ -4,7 +4,7 @@ use fit_base::base_type::{BYTE, STRING, UINT8, UINT16, UINT32};
 use fit_base::{Entries, Items, Order};
 use fit_profile::{Fixed, Message, Stream};
 use fit_record::{DevDef, FieldDef, MessageDef, Record, Values};
-use std::alloc::{AllocError, Global};
+use std::alloc::Global;
 use std::process::Abort;
 use test_known::protocol::{
     ALTITUDE, BATTERY_VOLTAGE, COMPRESSED_ACCUMULATED_POWER, COMPRESSED_SPEED_DISTANCE, CYCLES,
@@ -12,32 +12,22 @@ use test_known::protocol::{
     FIT_BASE_TYPE_ID, HEART_RATE, HRV, HRV_TIME, RECORD, TIMESTAMP,
 };
 
-/// A definition of these fields.
-fn define(
-    alloc: Global,
-    local: u8,
-    order: Order,
-    global: u16,
-    fields: &[FieldDef],
-) -> Result<Record, AllocError> {
-    let fields = Entries::from_slice(alloc, fields)?;
-    Ok(Record::Define(MessageDef::new(local, order, global, fields)))
-}
-
 /// A data message of these fields, each of a width and its items.
 pub(crate) fn data(
+    rt: &impl Abort,
     alloc: Global,
     local: u8,
     offset: Option<u8>,
     fields: &[(u8, &[u64])],
-) -> Result<Record, AllocError> {
+) -> Record {
     let mut list = Entries::new(alloc);
     for (width, numbers) in fields {
-        list.push(Items::from_slice(alloc, *width, numbers)?)?;
+        let items = Items::from_slice(alloc, *width, numbers).expect(rt, "memory");
+        list.push(items).expect(rt, "memory");
     }
     let mut message = Values::new(alloc, local, list);
     message.offset = offset;
-    Ok(Record::Values(message))
+    Record::Values(message)
 }
 
 /// The message of a record that fits.
@@ -62,7 +52,8 @@ pub(crate) fn push_definition(
     global: u16,
     fields: &[FieldDef],
 ) {
-    let definition = define(alloc, local, order, global, fields).expect(rt, "memory");
+    let fields = Entries::from_slice(alloc, fields).expect(rt, "memory");
+    let definition = Record::Define(MessageDef::new(local, order, global, fields));
     assert!(rt; pushed(rt, stream, &definition).is_none());
 }
 
@@ -89,14 +80,14 @@ fn push_time(
     timestamp: u64,
     time: Option<u32>,
 ) {
-    let record_ = data(alloc, 0, None, &[(4, &[timestamp]), (1, &[120])]).expect(rt, "memory");
+    let record_ = data(rt, alloc, 0, None, &[(4, &[timestamp]), (1, &[120])]);
     has_times(rt, stream, &record_, time, None);
 }
 
 /// Asserts the time of a message whose header has the offset 2.
 fn push_offset(rt: &impl Abort, alloc: Global, stream: &mut Stream, time: Option<u32>) {
     let fields: [(u8, &[u64]); 2] = [(2, &[2500]), (1, &[0x64, 0, 0x10])];
-    let record_ = data(alloc, 1, Some(2), &fields).expect(rt, "memory");
+    let record_ = data(rt, alloc, 1, Some(2), &fields);
     has_times(rt, stream, &record_, time, time);
 }
 
@@ -137,7 +128,7 @@ pub(crate) fn push_distance(
     compressed: &[u64],
     distance: Option<i128>,
 ) {
-    let record_ = data(alloc, 0, None, &[(1, compressed)]).expect(rt, "memory");
+    let record_ = data(rt, alloc, 0, None, &[(1, compressed)]);
     let message = pushed(rt, stream, &record_);
     let found = match message {
         Some(message) => (message.distance(), message.speed()),
@@ -182,7 +173,7 @@ fn push_totals(
     fields: &[(u8, &[u64])],
     totals: [Option<Fixed>; 3],
 ) {
-    let record_ = data(alloc, local, None, fields).expect(rt, "memory");
+    let record_ = data(rt, alloc, local, None, fields);
     match pushed(rt, stream, &record_) {
         Some(message) => {
             let cycles = message.total_cycles();
@@ -247,16 +238,11 @@ pub(crate) fn push_descriptions(rt: &impl Abort, alloc: Global, stream: &mut Str
     );
 }
 
-/// A record message of local type 1 without fields and with one developer field of two bytes.
-fn define_dev(alloc: Global) -> Result<Record, AllocError> {
-    let dev = Entries::from_slice(alloc, &[DevDef::new(5, 2, 0)])?;
-    let definition = MessageDef::new(1, Order::Little, RECORD, Entries::new(alloc));
-    Ok(Record::Define(definition.with_dev(dev)))
-}
-
-/// Pushes it.
+/// Pushes a definition of record messages of local type 1 without fields and with one developer field of two bytes.
 pub(crate) fn push_dev_definition(rt: &impl Abort, alloc: Global, stream: &mut Stream) {
-    let definition = define_dev(alloc).expect(rt, "memory");
+    let dev = Entries::from_slice(alloc, &[DevDef::new(5, 2, 0)]).expect(rt, "memory");
+    let definition = MessageDef::new(1, Order::Little, RECORD, Entries::new(alloc));
+    let definition = Record::Define(definition.with_dev(dev));
     assert!(rt; pushed(rt, stream, &definition).is_none());
 }
 
@@ -264,7 +250,7 @@ pub(crate) fn push_dev_definition(rt: &impl Abort, alloc: Global, stream: &mut S
 fn push_description(rt: &impl Abort, alloc: Global, stream: &mut Stream, name: &[u64]) {
     let code = [u64::from(UINT16)];
     let fields: [(u8, &[u64]); 4] = [(1, &[0]), (1, &[5]), (1, &code), (1, name)];
-    let record_ = data(alloc, 0, None, &fields).expect(rt, "memory");
+    let record_ = data(rt, alloc, 0, None, &fields);
     match pushed(rt, stream, &record_) {
         Some(message) => {
             assert!(rt; message.dev(0).is_none());
@@ -275,11 +261,12 @@ fn push_description(rt: &impl Abort, alloc: Global, stream: &mut Stream, name: &
 }
 
 /// A message of local type 1 with the developer field.
-fn dev_data(alloc: Global, width: u8, bits: &[u64]) -> Result<Record, AllocError> {
+fn dev_data(rt: &impl Abort, alloc: Global, width: u8, bits: &[u64]) -> Record {
+    let items = Items::from_slice(alloc, width, bits).expect(rt, "memory");
     let mut dev = Entries::new(alloc);
-    dev.push(Items::from_slice(alloc, width, bits)?)?;
+    dev.push(items).expect(rt, "memory");
     let message = Values::new(alloc, 1, Entries::new(alloc));
-    Ok(Record::Values(message.with_dev(dev)))
+    Record::Values(message.with_dev(dev))
 }
 
 /// Asserts the code and the name of the developer field of such a message.
@@ -292,7 +279,7 @@ fn push_dev(
     code: u8,
     name: Option<&str>,
 ) {
-    let record_ = dev_data(alloc, width, bits).expect(rt, "memory");
+    let record_ = dev_data(rt, alloc, width, bits);
     match pushed(rt, stream, &record_) {
         Some(message) => {
             let found = message.dev(0).map(|field| field.code);
@@ -355,7 +342,7 @@ fn parts_of_a_message(rt: HostRuntime) {
     ];
     let mut stream = Stream::new(alloc);
     push_definition(&rt, alloc, &mut stream, 0, Order::Big, RECORD, &fields);
-    let record_ = data(alloc, 0, None, &[(2, &[2499]), (1, &[255])]).expect(&rt, "memory");
+    let record_ = data(&rt, alloc, 0, None, &[(2, &[2499]), (1, &[255])]);
     match pushed(&rt, &mut stream, &record_) {
         Some(message) => has_parts(&rt, &message),
         None => assert!(rt; false),
@@ -374,7 +361,7 @@ fn has_value(
     let fields = [FieldDef::one(number, UINT16)];
     let mut stream = Stream::new(alloc);
     push_definition(rt, alloc, &mut stream, 0, Order::Little, global, &fields);
-    let record_ = data(alloc, 0, None, &[(2, &[item])]).expect(rt, "memory");
+    let record_ = data(rt, alloc, 0, None, &[(2, &[item])]);
     match pushed(rt, &mut stream, &record_) {
         Some(message) => equal_at(rt, &message.value(number), &value, &(global, item)),
         None => assert!(rt; false),

@@ -126,7 +126,7 @@ fn short_number_at_the_end(rt: HostRuntime) {
         FIELD_DESCRIPTION,
         &fields,
     );
-    let message = data(alloc, 0, None, &[(1, &[5])]).expect(&rt, "memory");
+    let message = data(&rt, alloc, 0, None, &[(1, &[5])]);
     let text = "data,0,,field_description,,,\nfield,developer_data_index,5,,,,\n";
     let mut reader = MessageReader::new(alloc);
     let left = after_record(&rt, alloc, &mut reader, &stream, &message, text.as_bytes());

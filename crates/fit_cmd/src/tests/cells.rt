@@ -1,9 +1,8 @@
 //! Values, times and developer fields, as rows that come back, shown, and in a table.
 
 use crate::tests::failing::{READING, text_of};
-use crate::tests::{TABLE_HEAD, answer_of, both_ways, bytes_of, expect};
+use crate::tests::{TABLE_HEAD, answer_of, both_ways, bytes_of, expect, expect_of};
 use fit_run::Command;
-use std::test::Fail;
 use test_known::fields::{kinds, two_fields};
 
 /// Three altitudes, times of hrv, a battery's voltage, and two product names, one without bytes and one that begins as hexadecimal digits do.
@@ -48,36 +47,34 @@ const NO_DEVELOPER_FIELDS_TEXT: &str =
     "row,a,b,c,d,e,f\nfile,14,32,0,sum,,\ndef,0,0,little,20,0,0\ndata,0,,record,,,\nend,,,,,,\n";
 
 #[test]
-fn rows(rt: HostRuntime) -> Result<(), Fail> {
+fn rows(rt: HostRuntime) {
     for (input, text) in [
         (VALUES, VALUES_TEXT),
         (ODD, ODD_TEXT),
         (TIMES, TIMES_TEXT),
         (NO_DEVELOPER_FIELDS, NO_DEVELOPER_FIELDS_TEXT),
     ] {
-        let bytes = bytes_of(rt.alloc(), input)?;
+        let bytes = bytes_of(&rt, rt.alloc(), input);
         both_ways(&rt, rt.alloc(), bytes.as_slice(), text);
     }
-    Ok(())
 }
 
 /// Two described developer fields, and values of many kinds.
 #[test]
-fn kinds_of_fields(rt: HostRuntime) -> Result<(), Fail> {
+fn kinds_of_fields(rt: HostRuntime) {
     for known in [two_fields(), kinds()] {
         both_ways(&rt, rt.alloc(), known.bytes, known.text);
         for command in READING {
-            let output = text_of(rt.alloc(), &known, command)?;
+            let output = text_of(&rt, rt.alloc(), &known, command);
             let mut source = known.bytes;
             let answer = answer_of(rt.alloc(), command, &mut source, 2048);
-            expect(&rt, &answer, known.name, output.as_str().as_bytes(), "", 0);
+            expect(&rt, &answer, known.name, output.as_bytes(), "", 0);
         }
     }
-    Ok(())
 }
 
 #[test]
-fn descriptions(rt: HostRuntime) -> Result<(), Fail> {
+fn descriptions(rt: HostRuntime) {
     for (input, output) in [
         // The number of the described field has two items, so nothing is described.
         (
@@ -96,26 +93,17 @@ fn descriptions(rt: HostRuntime) -> Result<(), Fail> {
              fit_base_type_id=132\n  define 1 record little 0 2\n  1 record: dev_0_5=4660, dev_9_5=0x3412\nok\n",
         ),
     ] {
-        let bytes = bytes_of(rt.alloc(), input)?;
-        let source = &mut bytes.as_slice();
-        let answer = answer_of(rt.alloc(), Command::Show, source, 2048);
-        expect(&rt, &answer, input, output.as_bytes(), "", 0);
+        expect_of(&rt, rt.alloc(), Command::Show, input, output, "", 0);
     }
-    Ok(())
 }
 
 /// A compressed distance, one whose counter has wrapped, and one that is skipped.
 #[test]
-fn distances(rt: HostRuntime) -> Result<(), Fail> {
-    let bytes = bytes_of(
-        rt.alloc(),
-        "0E 20 00 00 15 00 00 00 2E 46 49 54 5D B6 40 00 00 14 00 01 08 03 0D \
-         00 64 00 10 00 64 00 00 00 FF FF FF E0 5F",
-    )?;
-    let source = &mut bytes.as_slice();
-    let answer = answer_of(rt.alloc(), Command::Table, source, 2048);
+fn distances(rt: HostRuntime) {
+    let input = "0E 20 00 00 15 00 00 00 2E 46 49 54 5D B6 40 00 00 14 00 01 08 03 0D \
+                 00 64 00 10 00 64 00 00 00 FF FF FF E0 5F";
     let rows = "1,,,,,16.0000,1.00,,,,\n1,,,,,256.0000,1.00,,,,\n1,,,,,,,,,,\n";
-    let output = format!(in rt.alloc(); "{TABLE_HEAD}{rows}")?;
-    expect(&rt, &answer, "distances", output.as_bytes(), "", 0);
-    Ok(())
+    let output = format!(in rt.alloc(); "{TABLE_HEAD}{rows}").expect(&rt, "memory");
+    let output = output.as_str();
+    expect_of(&rt, rt.alloc(), Command::Table, input, output, "", 0);
 }

@@ -1,13 +1,14 @@
 //! Files of which one byte is changed.
 
+use crate::tests::asserts::equal_at;
 use crate::tests::{
-    DEVELOPER_FIELD, EMPTY, EMPTY_WITH_ZEROS, LONG, ONE_BYTE_MESSAGE, SHORT, TWO_MESSAGES, bytes_of,
+    DEVELOPER_FIELD, EMPTY, EMPTY_WITH_ZEROS, LONG, ONE_BYTE_MESSAGE, SHORT, TWO_MESSAGES,
+    bytes_of, chain_of,
 };
 use fit_decode::{Fault, read_chain};
 use fit_encode::{CutSink, write_chain};
 use std::alloc::Global;
 use std::process::Abort;
-use std::test::Fail;
 
 /// Whether bytes of which the one at a place is changed are read as what has these bytes, end too soon at their end, or are
 /// refused no sooner than there.
@@ -30,14 +31,14 @@ fn change_each(rt: &impl Abort, alloc: Global, bytes: &mut [u8]) {
         let old = bytes[place];
         for other in 1..=255u8 {
             bytes[place] = old ^ other;
-            assert!(rt; is_told(alloc, bytes, place), "{other} at {place}");
+            equal_at(rt, &is_told(alloc, bytes, place), &true, &(other, place));
         }
         bytes[place] = old;
     }
 }
 
 #[test]
-fn one_byte(rt: HostRuntime) -> Result<(), Fail> {
+fn one_byte(rt: HostRuntime) {
     for input in [
         EMPTY,
         EMPTY_WITH_ZEROS,
@@ -47,16 +48,13 @@ fn one_byte(rt: HostRuntime) -> Result<(), Fail> {
         TWO_MESSAGES,
         DEVELOPER_FIELD,
     ] {
-        let mut bytes = bytes_of(rt.alloc(), input)?;
+        let mut bytes = bytes_of(&rt, rt.alloc(), input);
         change_each(&rt, rt.alloc(), bytes.as_mut_slice());
     }
-    Ok(())
 }
 
 #[test]
-fn one_byte_of_a_chain(rt: HostRuntime) -> Result<(), Fail> {
-    let mut bytes = bytes_of(rt.alloc(), TWO_MESSAGES)?;
-    bytes.extend_from_slice(bytes_of(rt.alloc(), DEVELOPER_FIELD)?.as_slice())?;
+fn one_byte_of_a_chain(rt: HostRuntime) {
+    let mut bytes = chain_of(&rt, rt.alloc(), &[TWO_MESSAGES, DEVELOPER_FIELD]);
     change_each(&rt, rt.alloc(), bytes.as_mut_slice());
-    Ok(())
 }

@@ -2,12 +2,11 @@
 
 use crate::tests::{
     DEVELOPER_FIELD, EMPTY, EMPTY_WITH_ZEROS, LONG, ONE_BYTE_MESSAGE, SHORT, TRUE_ZERO,
-    TWO_MESSAGES, answer_of, bytes_of, expect,
+    TWO_MESSAGES, add_bytes, answer_of, bytes_of, chain_of, expect, expect_of,
 };
 use fit_run::Command;
 use std::alloc::Global;
 use std::process::Abort;
-use std::test::Fail;
 
 const EMPTY_IS_GOOD: &str = "file 1: 0 data bytes, 0 records\nok\n";
 
@@ -19,7 +18,7 @@ fn check(rt: &impl Abort, alloc: Global, bytes: &[u8], output: &str, status: u8)
 }
 
 #[test]
-fn good_files(rt: HostRuntime) -> Result<(), Fail> {
+fn good_files(rt: HostRuntime) {
     for (input, output) in [
         (EMPTY, EMPTY_IS_GOOD),
         (EMPTY_WITH_ZEROS, EMPTY_IS_GOOD),
@@ -34,73 +33,75 @@ fn good_files(rt: HostRuntime) -> Result<(), Fail> {
         (TWO_MESSAGES, "file 1: 36 data bytes, 4 records\nok\n"),
         (DEVELOPER_FIELD, "file 1: 54 data bytes, 7 records\nok\n"),
     ] {
-        let bytes = bytes_of(rt.alloc(), input)?;
-        check(&rt, rt.alloc(), bytes.as_slice(), output, 0);
+        expect_of(&rt, rt.alloc(), Command::Check, input, output, "", 0);
     }
-    Ok(())
+}
+
+/// Files without records whose header or checksum is refused, and what `check` writes of them.
+const REFUSED: [(&str, &str); 11] = [
+    ("0B", "refused at byte 0: HeaderSize\n"),
+    (
+        "0D 20 00 00 00 00 00 00 2E 46 49 54 9C 85 00 00",
+        "refused at byte 0: HeaderSize\n",
+    ),
+    (
+        "0E 30 00 00 00 00 00 00 2E 46 49 54 9C 85 00 00",
+        "refused at byte 1: Protocol\n",
+    ),
+    (
+        "0E 20 00 00 03 00 00 00 2E 46 49 54 00 00",
+        "refused at byte 7: NoFit\n",
+    ),
+    (
+        "0E 20 00 00 00 00 00 00 2F 46 49 54 9C 85 00 00",
+        "refused at byte 8: Signature\n",
+    ),
+    (
+        "0E 20 00 00 00 00 00 00 2E 46 49 54 9D 85 00 00",
+        "refused at byte 12: HeaderSum\n",
+    ),
+    (
+        "0E 20 00 00 00 00 00 00 2E 46 49 54 9C 00 00 00",
+        "refused at byte 13: HeaderSum\n",
+    ),
+    (
+        "0E 20 00 00 00 00 00 00 2E 46 49 54 00 85 00 00",
+        "refused at byte 13: HeaderSum\n",
+    ),
+    (
+        "0E 20 00 00 00 00 00 00 2E 46 49 54 9C 85 01 00",
+        "refused at byte 14: FileSum\n",
+    ),
+    (
+        "0E 20 00 00 00 00 00 00 2E 46 49 54 9C 85 00 01",
+        "refused at byte 15: FileSum\n",
+    ),
+    (
+        "0C 20 00 00 00 00 00 00 2E 46 49 54 65 43",
+        "refused at byte 13: FileSum\n",
+    ),
+];
+
+#[test]
+fn refused_headers_and_sums(rt: HostRuntime) {
+    for (input, output) in REFUSED {
+        expect_of(&rt, rt.alloc(), Command::Check, input, output, "", 1);
+    }
+}
+
+/// Asserts what `check` writes of a header of 14 bytes with zeros for its sum, that announces that many bytes, and these bytes after it.
+fn check_announced(rt: &impl Abort, alloc: Global, size: u8, data: &[&str], output: &str) {
+    let mut head = *b"\x0E\x20\0\0\0\0\0\0.FIT\0\0";
+    head[4] = size;
+    let mut bytes = Vec::from_slice(alloc, &head).expect(rt, "memory");
+    for text in data {
+        add_bytes(rt, &mut bytes, text);
+    }
+    check(rt, alloc, bytes.as_slice(), output, 1);
 }
 
 #[test]
-fn refused_headers_and_sums(rt: HostRuntime) -> Result<(), Fail> {
-    for (input, output) in [
-        ("0B", "refused at byte 0: HeaderSize\n"),
-        (
-            "0D 20 00 00 00 00 00 00 2E 46 49 54 9C 85 00 00",
-            "refused at byte 0: HeaderSize\n",
-        ),
-        (
-            "0E 30 00 00 00 00 00 00 2E 46 49 54 9C 85 00 00",
-            "refused at byte 1: Protocol\n",
-        ),
-        (
-            "0E 20 00 00 03 00 00 00 2E 46 49 54 00 00",
-            "refused at byte 7: NoFit\n",
-        ),
-        (
-            "0E 20 00 00 00 00 00 00 2F 46 49 54 9C 85 00 00",
-            "refused at byte 8: Signature\n",
-        ),
-        (
-            "0E 20 00 00 00 00 00 00 2E 46 49 54 9D 85 00 00",
-            "refused at byte 12: HeaderSum\n",
-        ),
-        (
-            "0E 20 00 00 00 00 00 00 2E 46 49 54 9C 00 00 00",
-            "refused at byte 13: HeaderSum\n",
-        ),
-        (
-            "0E 20 00 00 00 00 00 00 2E 46 49 54 00 85 00 00",
-            "refused at byte 13: HeaderSum\n",
-        ),
-        (
-            "0E 20 00 00 00 00 00 00 2E 46 49 54 9C 85 01 00",
-            "refused at byte 14: FileSum\n",
-        ),
-        (
-            "0E 20 00 00 00 00 00 00 2E 46 49 54 9C 85 00 01",
-            "refused at byte 15: FileSum\n",
-        ),
-        (
-            "0C 20 00 00 00 00 00 00 2E 46 49 54 65 43",
-            "refused at byte 13: FileSum\n",
-        ),
-    ] {
-        let bytes = bytes_of(rt.alloc(), input)?;
-        check(&rt, rt.alloc(), bytes.as_slice(), output, 1);
-    }
-    Ok(())
-}
-
-/// A header of 14 bytes with zeros for its sum, that announces that many bytes, and these bytes after it.
-fn announced(alloc: Global, size: u8, data: &str) -> Result<Vec<u8>, Fail> {
-    let mut bytes = Vec::from_slice(alloc, &[0x0E, 0x20, 0, 0, size, 0, 0, 0])?;
-    bytes.extend_from_slice(b".FIT\0\0")?;
-    bytes.extend_from_slice(bytes_of(alloc, data)?.as_slice())?;
-    Ok(bytes)
-}
-
-#[test]
-fn bytes_that_can_follow(rt: HostRuntime) -> Result<(), Fail> {
+fn bytes_that_can_follow(rt: HostRuntime) {
     for (size, data, output) in [
         (0, "", "truncated at byte 14\n"),
         (6, "", "truncated at byte 14\n"),
@@ -126,72 +127,50 @@ fn bytes_that_can_follow(rt: HostRuntime) -> Result<(), Fail> {
             "truncated at byte 28\n",
         ),
     ] {
-        let bytes = announced(rt.alloc(), size, data)?;
-        check(&rt, rt.alloc(), bytes.as_slice(), output, 1);
+        check_announced(&rt, rt.alloc(), size, &[data], output);
     }
-    Ok(())
 }
 
 #[test]
-fn bytes_that_cannot_follow(rt: HostRuntime) -> Result<(), Fail> {
-    // Messages of 20 bytes where 10 are left.
+fn bytes_that_cannot_follow(rt: HostRuntime) {
+    let one = "40 00 00 14 00 01 05";
+    let two = "40 00 00 14 00 02 05";
+    let three = "40 00 00 14 00 01 08 03 0D";
     let long = "40 00 00 14 00 01 08 13 0D";
+    let dev = "60 00 00 14 00 01 08 03 0D";
+    let again = "40 00 00 14 00 00 40 00 00 14 00 01 05";
     for (size, data, last, output) in [
-        (8, "40 00 00 14 00", " 01", "refused at byte 19: Overrun\n"),
+        (8, "40 00 00 14 00", "01", "refused at byte 19: Overrun\n"),
         // One byte would be left, and messages would have three.
-        (
-            10,
-            "40 00 00 14 00 01 05",
-            " 02",
-            "refused at byte 21: NoFit\n",
-        ),
-        (
-            13,
-            "60 00 00 14 00 01 08 03 0D",
-            " 00",
-            "refused at byte 23: NoFit\n",
-        ),
-        (
-            13,
-            "60 00 00 14 00 01 08 03 0D",
-            " 02",
-            "refused at byte 23: Overrun\n",
-        ),
-        (19, long, " 00", "refused at byte 23: Overrun\n"),
-        (19, long, " 01", "refused at byte 23: UndefinedLocal\n"),
-        (19, long, " 50", "refused at byte 23: ReservedBit\n"),
-        (19, long, " 20", "refused at byte 23: ReservedBit\n"),
+        (10, one, "02", "refused at byte 21: NoFit\n"),
+        (13, dev, "00", "refused at byte 23: NoFit\n"),
+        (13, dev, "02", "refused at byte 23: Overrun\n"),
+        // Messages of 20 bytes where 10 are left.
+        (19, long, "00", "refused at byte 23: Overrun\n"),
+        (19, long, "01", "refused at byte 23: UndefinedLocal\n"),
+        (19, long, "50", "refused at byte 23: ReservedBit\n"),
+        (19, long, "20", "refused at byte 23: ReservedBit\n"),
         // Messages of four bytes where 7 are left.
-        (
-            16,
-            "40 00 00 14 00 01 08 03 0D",
-            " 00",
-            "refused at byte 23: NoFit\n",
-        ),
-        (6, "40 00", " 02", "refused at byte 16: Architecture\n"),
-        (
-            13,
-            "40 00 00 14 00 02 05",
-            " 01",
-            "refused at byte 21: NoFit\n",
-        ),
+        (16, three, "00", "refused at byte 23: NoFit\n"),
+        (6, "40 00", "02", "refused at byte 16: Architecture\n"),
+        (13, two, "01", "refused at byte 21: NoFit\n"),
         // The earlier messages of one byte are replaced.
-        (
-            16,
-            "40 00 00 14 00 00 40 00 00 14 00 01 05",
-            " 01",
-            "refused at byte 27: NoFit\n",
-        ),
+        (16, again, "01", "refused at byte 27: NoFit\n"),
     ] {
-        let mut bytes = announced(rt.alloc(), size, data)?;
-        bytes.extend_from_slice(bytes_of(rt.alloc(), last)?.as_slice())?;
-        check(&rt, rt.alloc(), bytes.as_slice(), output, 1);
+        check_announced(&rt, rt.alloc(), size, &[data, last], output);
     }
-    Ok(())
+}
+
+/// Asserts what `check` writes of all first bytes of some, from that many on: that the files before them are good, and that a file is cut.
+fn check_cut(rt: &impl Abort, alloc: Global, bytes: &[u8], from: usize, good: &str) {
+    for k in from..bytes.len() {
+        let lines = format!(in alloc; "{good}truncated at byte {k}\n").expect(rt, "memory");
+        check(rt, alloc, &bytes[..k], lines.as_str(), 1);
+    }
 }
 
 #[test]
-fn cut_files(rt: HostRuntime) -> Result<(), Fail> {
+fn cut_files(rt: HostRuntime) {
     for input in [
         EMPTY,
         EMPTY_WITH_ZEROS,
@@ -201,46 +180,37 @@ fn cut_files(rt: HostRuntime) -> Result<(), Fail> {
         TWO_MESSAGES,
         DEVELOPER_FIELD,
     ] {
-        let bytes = bytes_of(rt.alloc(), input)?;
-        for k in 0..bytes.len() {
-            let line = format!(in rt.alloc(); "truncated at byte {k}\n")?;
-            check(&rt, rt.alloc(), &bytes.as_slice()[..k], line.as_str(), 1);
-        }
+        let bytes = bytes_of(&rt, rt.alloc(), input);
+        check_cut(&rt, rt.alloc(), bytes.as_slice(), 0, "");
     }
-    Ok(())
 }
 
 #[test]
-fn cut_chains(rt: HostRuntime) -> Result<(), Fail> {
-    let mut bytes = bytes_of(rt.alloc(), TWO_MESSAGES)?;
-    bytes.extend_from_slice(bytes_of(rt.alloc(), DEVELOPER_FIELD)?.as_slice())?;
+fn cut_chains(rt: HostRuntime) {
+    let bytes = chain_of(&rt, rt.alloc(), &[TWO_MESSAGES, DEVELOPER_FIELD]);
     let first = "file 1: 36 data bytes, 4 records\n";
-    for k in 53..bytes.len() {
-        let lines = format!(in rt.alloc(); "{first}truncated at byte {k}\n")?;
-        check(&rt, rt.alloc(), &bytes.as_slice()[..k], lines.as_str(), 1);
-    }
-    let front = bytes.as_slice().get(..52).ok_or("too short")?;
-    let lines = format!(in rt.alloc(); "{first}ok\n")?;
-    check(&rt, rt.alloc(), front, lines.as_str(), 0);
-    Ok(())
+    check_cut(&rt, rt.alloc(), bytes.as_slice(), 53, first);
+    let front = bytes.as_slice().get(..52).expect(&rt, "a file");
+    let lines = "file 1: 36 data bytes, 4 records\nok\n";
+    check(&rt, rt.alloc(), front, lines, 0);
 }
 
 #[test]
-fn changed_sums(rt: HostRuntime) -> Result<(), Fail> {
+fn changed_sums(rt: HostRuntime) {
     for bit in 0..16u8 {
-        let mut bytes = bytes_of(rt.alloc(), EMPTY)?;
+        let mut bytes = bytes_of(&rt, rt.alloc(), EMPTY);
         let place = 14 + usize::from(bit / 8);
         if let Some(byte) = bytes.as_mut_slice().get_mut(place) {
             *byte ^= 1 << (bit % 8);
         }
-        let line = format!(in rt.alloc(); "refused at byte {place}: FileSum\n")?;
+        let line = format!(in rt.alloc(); "refused at byte {place}: FileSum\n");
+        let line = line.expect(&rt, "memory");
         check(&rt, rt.alloc(), bytes.as_slice(), line.as_str(), 1);
     }
-    Ok(())
 }
 
 #[test]
-fn chains(rt: HostRuntime) -> Result<(), Fail> {
+fn chains(rt: HostRuntime) {
     for (inputs, output, status) in [
         (
             [ONE_BYTE_MESSAGE, TWO_MESSAGES, EMPTY],
@@ -268,11 +238,7 @@ fn chains(rt: HostRuntime) -> Result<(), Fail> {
             1,
         ),
     ] {
-        let mut bytes = Vec::new(rt.alloc());
-        for input in inputs {
-            bytes.extend_from_slice(bytes_of(rt.alloc(), input)?.as_slice())?;
-        }
+        let bytes = chain_of(&rt, rt.alloc(), &inputs);
         check(&rt, rt.alloc(), bytes.as_slice(), output, status);
     }
-    Ok(())
 }

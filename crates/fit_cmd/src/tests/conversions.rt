@@ -3,17 +3,16 @@
 use crate::tests::{
     DEVELOPER_FIELD, DEVELOPER_FIELD_TEXT, EMPTY, EMPTY_TEXT, EMPTY_WITH_ZEROS, LONG, LONG_TEXT,
     ONE_BYTE_MESSAGE, SHORT, TABLE_HEAD, TRUE_ZERO, TWO_MESSAGES, TWO_MESSAGES_TEXT, answer_of,
-    both_ways, bytes_of, expect,
+    both_ways, bytes_of, chain_of, expect, expect_of,
 };
 use fit_run::Command;
-use std::test::Fail;
 
 /// A product name with a comma and a quote.
 const QUOTED: &str =
     "0E 20 00 00 0F 00 00 00 2E 46 49 54 DC C5 40 00 00 00 00 01 08 05 07 00 61 2C 22 62 00 FC F8";
 
 #[test]
-fn files_both_ways(rt: HostRuntime) -> Result<(), Fail> {
+fn files_both_ways(rt: HostRuntime) {
     for (input, text) in [
         (EMPTY, EMPTY_TEXT),
         (
@@ -38,26 +37,23 @@ fn files_both_ways(rt: HostRuntime) -> Result<(), Fail> {
              field,product_name,\"a,\"\"b\",,,,\nend,,,,,,\n",
         ),
     ] {
-        let bytes = bytes_of(rt.alloc(), input)?;
+        let bytes = bytes_of(&rt, rt.alloc(), input);
         both_ways(&rt, rt.alloc(), bytes.as_slice(), text);
     }
-    Ok(())
 }
 
 #[test]
-fn a_chain_both_ways(rt: HostRuntime) -> Result<(), Fail> {
-    let mut bytes = bytes_of(rt.alloc(), TWO_MESSAGES)?;
-    bytes.extend_from_slice(bytes_of(rt.alloc(), DEVELOPER_FIELD)?.as_slice())?;
+fn a_chain_both_ways(rt: HostRuntime) {
+    let bytes = chain_of(&rt, rt.alloc(), &[TWO_MESSAGES, DEVELOPER_FIELD]);
     let (_, second) = DEVELOPER_FIELD_TEXT
         .split_once("row,a,b,c,d,e,f\n")
-        .ok_or("no first line")?;
-    let text = format!(in rt.alloc(); "{TWO_MESSAGES_TEXT}{second}")?;
+        .expect(&rt, "a first line");
+    let text = format!(in rt.alloc(); "{TWO_MESSAGES_TEXT}{second}").expect(&rt, "memory");
     both_ways(&rt, rt.alloc(), bytes.as_slice(), text.as_str());
-    Ok(())
 }
 
 #[test]
-fn rows_before_a_refusal(rt: HostRuntime) -> Result<(), Fail> {
+fn rows_before_a_refusal(rt: HostRuntime) {
     for (input, output, faults) in [
         ("", "row,a,b,c,d,e,f\n", "truncated at byte 0\n"),
         ("0D", "row,a,b,c,d,e,f\n", "refused at byte 0: HeaderSize\n"),
@@ -75,16 +71,12 @@ fn rows_before_a_refusal(rt: HostRuntime) -> Result<(), Fail> {
             "refused at byte 37: UndefinedLocal\n",
         ),
     ] {
-        let bytes = bytes_of(rt.alloc(), input)?;
-        let source = &mut bytes.as_slice();
-        let answer = answer_of(rt.alloc(), Command::ToCsv, source, 2048);
-        expect(&rt, &answer, input, output.as_bytes(), faults, 1);
+        expect_of(&rt, rt.alloc(), Command::ToCsv, input, output, faults, 1);
     }
-    Ok(())
 }
 
 #[test]
-fn tables(rt: HostRuntime) -> Result<(), Fail> {
+fn tables(rt: HostRuntime) {
     for (inputs, rows, faults, status) in [
         ([EMPTY, ""], "", "", 0),
         ([ONE_BYTE_MESSAGE, ""], "1,,,,,,,,,,\n", "", 0),
@@ -103,14 +95,10 @@ fn tables(rt: HostRuntime) -> Result<(), Fail> {
             1,
         ),
     ] {
-        let mut bytes = Vec::new(rt.alloc());
-        for input in inputs {
-            bytes.extend_from_slice(bytes_of(rt.alloc(), input)?.as_slice())?;
-        }
-        let source = &mut bytes.as_slice();
-        let answer = answer_of(rt.alloc(), Command::Table, source, 2048);
-        let output = format!(in rt.alloc(); "{TABLE_HEAD}{rows}")?;
+        let bytes = chain_of(&rt, rt.alloc(), &inputs);
+        let mut source = bytes.as_slice();
+        let answer = answer_of(rt.alloc(), Command::Table, &mut source, 2048);
+        let output = format!(in rt.alloc(); "{TABLE_HEAD}{rows}").expect(&rt, "memory");
         expect(&rt, &answer, rows, output.as_bytes(), faults, status);
     }
-    Ok(())
 }

@@ -5,9 +5,8 @@ use crate::tests::{TABLE_HEAD, answer_of, expect};
 use fit_decode::CutSource;
 use fit_encode::{CutSink, Sink};
 use fit_run::{Command, run};
-use std::alloc::{AllocError, Global};
+use std::alloc::Global;
 use std::process::Abort;
-use std::test::Fail;
 use test_known::{Known, files};
 
 /// The commands that read files.
@@ -19,40 +18,31 @@ pub const READING: [Command; 4] = [
 ];
 
 /// The first lines of a text.
-fn first_lines(alloc: Global, text: &str, count: usize) -> Result<String, AllocError> {
+fn first_lines(rt: &impl Abort, alloc: Global, text: &str, count: usize) -> String {
     let mut lines = String::new(alloc);
     for (place, line) in text.split('\n').enumerate() {
         if place < count {
-            lines.push_str(line)?;
-            lines.push('\n')?;
+            lines.push_str(line).expect(rt, "memory");
+            lines.push('\n').expect(rt, "memory");
         }
     }
-    Ok(lines)
+    lines
 }
 
 /// All that a command writes of an input.
-pub fn text_of(alloc: Global, known: &Known, command: Command) -> Result<String, AllocError> {
-    let mut text = String::new(alloc);
-    match command {
-        Command::Check => text.push_str(known.checked)?,
-        Command::Show => text.push_str(known.shown)?,
-        Command::ToCsv => text.push_str(known.text)?,
-        Command::Table => {
-            text.push_str(TABLE_HEAD)?;
-            text.push_str(known.table)?;
-        }
-        Command::FromCsv => {}
-    }
-    Ok(text)
+pub fn text_of(rt: &impl Abort, alloc: Global, known: &Known, command: Command) -> String {
+    let (head, rest) = match command {
+        Command::Check => ("", known.checked),
+        Command::Show => ("", known.shown),
+        Command::ToCsv => ("", known.text),
+        Command::Table => (TABLE_HEAD, known.table),
+        Command::FromCsv => ("", ""),
+    };
+    format!(in alloc; "{head}{rest}").expect(rt, "memory")
 }
 
 /// What a command writes of the events in that many bytes of an input.
-fn written_of(
-    alloc: Global,
-    known: &Known,
-    command: Command,
-    k: usize,
-) -> Result<String, AllocError> {
+fn written_of(rt: &impl Abort, alloc: Global, known: &Known, command: Command, k: usize) -> String {
     let mut count = match command {
         Command::ToCsv | Command::Table => 1,
         _ => 0,
@@ -67,70 +57,51 @@ fn written_of(
             };
         }
     }
-    let text = text_of(alloc, known, command)?;
-    first_lines(alloc, text.as_str(), count)
+    let text = text_of(rt, alloc, known, command);
+    first_lines(rt, alloc, text.as_str(), count)
 }
 
 /// Asserts what a command writes of an input that ends after that many bytes.
-fn end_at(
-    rt: &impl Abort,
-    alloc: Global,
-    known: &Known,
-    command: Command,
-    k: usize,
-) -> Result<(), Fail> {
-    let lines = written_of(alloc, known, command, k)?;
+fn end_at(rt: &impl Abort, alloc: Global, known: &Known, command: Command, k: usize) {
+    let lines = written_of(rt, alloc, known, command, k);
     let whole = k == known.first || k == known.bytes.len();
     let status = if whole { 0 } else { 1 };
-    let cut = format!(in alloc; "truncated at byte {k}\n")?;
-    let mut source = known.bytes.get(..k).ok_or("too short")?;
+    let cut = format!(in alloc; "truncated at byte {k}\n").expect(rt, "memory");
+    let (good, fault) = if whole {
+        ("ok\n", "")
+    } else {
+        (cut.as_str(), cut.as_str())
+    };
+    let mut source = known.bytes.get(..k).expect(rt, "that many bytes");
     let found = answer_of(alloc, command, &mut source, 2048);
-    match (command, whole) {
-        (Command::Check | Command::Show, true) => {
-            let output = format!(in alloc; "{lines}ok\n")?;
-            expect(rt, &found, known.name, output.as_bytes(), "", status);
-        }
-        (Command::Check | Command::Show, false) => {
-            let output = format!(in alloc; "{lines}{cut}")?;
-            expect(rt, &found, known.name, output.as_bytes(), "", status);
-        }
-        (_, true) => expect(rt, &found, known.name, lines.as_bytes(), "", status),
-        (_, false) => {
-            let faults = cut.as_str();
-            expect(rt, &found, known.name, lines.as_bytes(), faults, status);
-        }
+    if let Command::Check | Command::Show = command {
+        let output = format!(in alloc; "{lines}{good}").expect(rt, "memory");
+        expect(rt, &found, known.name, output.as_bytes(), "", status);
+    } else {
+        expect(rt, &found, known.name, lines.as_bytes(), fault, status);
     }
-    Ok(())
 }
 
 /// Asserts what a command writes of an input whose source fails after that many bytes.
-fn fail_at(
-    rt: &impl Abort,
-    alloc: Global,
-    known: &Known,
-    command: Command,
-    k: usize,
-) -> Result<(), Fail> {
-    let lines = written_of(alloc, known, command, k)?;
-    let fault = format!(in alloc; "read fault at byte {k}\n")?;
+fn fail_at(rt: &impl Abort, alloc: Global, known: &Known, command: Command, k: usize) {
+    let lines = written_of(rt, alloc, known, command, k);
+    let fault = format!(in alloc; "read fault at byte {k}\n").expect(rt, "memory");
     let mut source = CutSource::new(known.bytes, k);
     let found = answer_of(alloc, command, &mut source, 2048);
     expect(rt, &found, known.name, lines.as_bytes(), fault.as_str(), 4);
-    Ok(())
 }
 
 #[test]
-fn inputs_that_end_anywhere(rt: HostRuntime) -> Result<(), Fail> {
+fn inputs_that_end_anywhere(rt: HostRuntime) {
     for known in files() {
         for command in READING {
             for k in 0..known.bytes.len() {
-                end_at(&rt, rt.alloc(), &known, command, k)?;
-                fail_at(&rt, rt.alloc(), &known, command, k)?;
+                end_at(&rt, rt.alloc(), &known, command, k);
+                fail_at(&rt, rt.alloc(), &known, command, k);
             }
-            end_at(&rt, rt.alloc(), &known, command, known.bytes.len())?;
+            end_at(&rt, rt.alloc(), &known, command, known.bytes.len());
         }
     }
-    Ok(())
 }
 
 #[test]
@@ -161,11 +132,11 @@ fn fail_at_each(rt: &impl Abort, alloc: Global, command: Command, input: &[u8], 
 }
 
 #[test]
-fn outputs_that_fail_anywhere(rt: HostRuntime) -> Result<(), Fail> {
+fn outputs_that_fail_anywhere(rt: HostRuntime) {
     let alloc = rt.alloc();
     for known in files() {
         for command in READING {
-            let text = text_of(alloc, &known, command)?;
+            let text = text_of(&rt, alloc, &known, command);
             fail_at_each(&rt, alloc, command, known.bytes, text.as_bytes());
         }
         fail_at_each(
@@ -178,7 +149,6 @@ fn outputs_that_fail_anywhere(rt: HostRuntime) -> Result<(), Fail> {
     }
     let line = b"refused at byte 0: HeaderSize\n";
     fail_at_each(&rt, alloc, Command::Check, &[0x0D], line);
-    Ok(())
 }
 
 #[test]

@@ -1,19 +1,21 @@
 //! Command lines.
 
+use crate::tests::asserts::equal_at;
 use fit_run::{Command, LineFault, parse_line};
-use std::alloc::{AllocError, Global};
-use std::test::Fail;
+use std::alloc::Global;
+use std::process::Abort;
 
-fn words(alloc: Global, line: &str) -> Result<Vec<String>, AllocError> {
+fn words(rt: &impl Abort, alloc: Global, line: &str) -> Vec<String> {
     let mut words = Vec::new(alloc);
     for word in line.split(' ') {
-        words.push(String::from_str(alloc, word)?)?;
+        let word = String::from_str(alloc, word).expect(rt, "memory");
+        words.push(word).expect(rt, "memory");
     }
-    Ok(words)
+    words
 }
 
 #[test]
-fn lines(rt: HostRuntime) -> Result<(), Fail> {
+fn lines(rt: HostRuntime) {
     for (line, want) in [
         ("fit check", Ok((Command::Check, None))),
         ("fit check a.fit", Ok((Command::Check, Some("a.fit")))),
@@ -36,15 +38,12 @@ fn lines(rt: HostRuntime) -> Result<(), Fail> {
         ("fit check -- -a", Ok((Command::Check, Some("-a")))),
         ("fit check -", Ok((Command::Check, Some("-")))),
     ] {
-        let words = words(rt.alloc(), line)?;
-        let found = parse_line(rt.alloc(), words.as_slice());
-        match &found {
-            Ok(found) => {
-                let path = found.path.as_ref().map(|path| path.as_str());
-                assert!(rt; want == Ok((found.command, path)), "at {line}");
-            }
-            Err(fault) => assert!(rt; want == Err(*fault), "at {line}"),
-        }
+        let words = words(&rt, rt.alloc(), line);
+        let parsed = parse_line(rt.alloc(), words.as_slice());
+        let found = match &parsed {
+            Ok(found) => Ok((found.command, found.path.as_ref().map(|path| path.as_str()))),
+            Err(fault) => Err(*fault),
+        };
+        equal_at(&rt, &found, &want, &line);
     }
-    Ok(())
 }

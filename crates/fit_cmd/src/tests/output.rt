@@ -4,7 +4,6 @@ use crate::output::Output;
 use crate::tests::asserts::equal;
 use std::io;
 use std::io::{ErrorKind, Write};
-use std::test::Fail;
 
 /// Takes that many bytes and that many flushes, and then fails in this way.
 #[derive(Drop)]
@@ -34,16 +33,16 @@ impl Write for Failing {
 }
 
 #[test]
-fn a_pipe_that_nobody_reads(rt: HostRuntime) -> Result<(), Fail> {
+fn a_pipe_that_nobody_reads(rt: HostRuntime) {
     let kind = ErrorKind::BrokenPipe;
     let mut output = Output::new(Failing {
         bytes: 3,
         flushes: 1,
         kind,
     });
-    equal(&rt, &output.write(b"ab")?, &2);
-    equal(&rt, &output.write(b"cd")?, &1);
-    output.flush()?;
+    equal(&rt, &output.write(b"ab").expect(&rt, "a write"), &2);
+    equal(&rt, &output.write(b"cd").expect(&rt, "a write"), &1);
+    output.flush().expect(&rt, "a flush");
     assert!(rt; !output.is_closed());
     assert!(rt; output.write(b"d").is_err_and(|error| error.kind() == kind));
     assert!(rt; output.is_closed());
@@ -56,13 +55,12 @@ fn a_pipe_that_nobody_reads(rt: HostRuntime) -> Result<(), Fail> {
     assert!(rt; unflushed.flush().is_err_and(|error| error.kind() == kind));
     assert!(rt; unflushed.is_closed());
     // what was seen once is not forgotten
-    equal(&rt, &unflushed.write(b"ab")?, &2);
+    equal(&rt, &unflushed.write(b"ab").expect(&rt, "a write"), &2);
     assert!(rt; unflushed.is_closed());
-    Ok(())
 }
 
 #[test]
-fn another_fault(rt: HostRuntime) -> Result<(), Fail> {
+fn another_fault(rt: HostRuntime) {
     let kind = ErrorKind::Other;
     let mut output = Output::new(Failing {
         bytes: 0,
@@ -72,5 +70,4 @@ fn another_fault(rt: HostRuntime) -> Result<(), Fail> {
     assert!(rt; output.write(b"ab").is_err_and(|error| error.kind() == kind));
     assert!(rt; output.flush().is_err_and(|error| error.kind() == kind));
     assert!(rt; !output.is_closed());
-    Ok(())
 }

@@ -4,7 +4,6 @@ use crate::tests::{DEVELOPER_FIELD_TEXT, TWO_MESSAGES_TEXT, answer_of, expect};
 use fit_run::Command;
 use std::alloc::Global;
 use std::process::Abort;
-use std::test::Fail;
 
 /// Asserts why a text is refused, and that nothing is written.
 fn refuse(rt: &impl Abort, alloc: Global, text: &str, line: &str) {
@@ -14,7 +13,7 @@ fn refuse(rt: &impl Abort, alloc: Global, text: &str, line: &str) {
 }
 
 #[test]
-fn rows(rt: HostRuntime) -> Result<(), Fail> {
+fn rows(rt: HostRuntime) {
     for (text, line) in [
         ("", "header row refused\n"),
         ("row,a\n", "header row refused\n"),
@@ -33,13 +32,13 @@ fn rows(rt: HostRuntime) -> Result<(), Fail> {
     ] {
         refuse(&rt, rt.alloc(), text, line);
     }
-    let (front, _) = TWO_MESSAGES_TEXT.split_once("end,").ok_or("no last row")?;
+    let parts = TWO_MESSAGES_TEXT.split_once("end,");
+    let (front, _) = parts.expect(&rt, "a last row");
     refuse(&rt, rt.alloc(), front, "row 15 refused\n");
-    Ok(())
 }
 
 #[test]
-fn header_cells(rt: HostRuntime) -> Result<(), Fail> {
+fn header_cells(rt: HostRuntime) {
     for (file, line) in [
         ("file,13,32,0,sum,,", "row 2 column 2 refused\n"),
         ("file,256,32,0,sum,,", "row 2 column 2 refused\n"),
@@ -55,20 +54,21 @@ fn header_cells(rt: HostRuntime) -> Result<(), Fail> {
         // The sum of this header is 0.
         ("file,14,32,46477,zero,,", "encode fault: ZeroIsSum\n"),
     ] {
-        let text = format!(in rt.alloc(); "row,a,b,c,d,e,f\n{file}\nend,,,,,,\n")?;
+        let text = format!(in rt.alloc(); "row,a,b,c,d,e,f\n{file}\nend,,,,,,\n");
+        let text = text.expect(&rt, "memory");
         refuse(&rt, rt.alloc(), text.as_str(), line);
     }
-    Ok(())
 }
 
-/// A text with its first part of some form replaced.
-fn with_part(alloc: Global, text: &str, old: &str, new: &str) -> Result<String, Fail> {
-    let (front, back) = text.split_once(old).ok_or("no such part")?;
-    Ok(format!(in alloc; "{front}{new}{back}")?)
+/// Asserts why a text with its first part of some form replaced is refused.
+fn refuse_with(rt: &impl Abort, alloc: Global, text: &str, old: &str, new: &str, line: &str) {
+    let (front, back) = text.split_once(old).expect(rt, "such a part");
+    let text = format!(in alloc; "{front}{new}{back}").expect(rt, "memory");
+    refuse(rt, alloc, text.as_str(), line);
 }
 
 #[test]
-fn record_cells(rt: HostRuntime) -> Result<(), Fail> {
+fn record_cells(rt: HostRuntime) {
     for (old, new, line) in [
         ("def,0,0,", "def,16,0,", "row 3 column 2 refused\n"),
         (",little,", ",middle,", "row 3 column 4 refused\n"),
@@ -85,8 +85,7 @@ fn record_cells(rt: HostRuntime) -> Result<(), Fail> {
         (",0.0,", ",0.3,", "row 13 column 3 refused\n"),
         (",0x640010,", ",0x64001,", "row 14 column 3 refused\n"),
     ] {
-        let text = with_part(rt.alloc(), TWO_MESSAGES_TEXT, old, new)?;
-        refuse(&rt, rt.alloc(), text.as_str(), line);
+        refuse_with(&rt, rt.alloc(), TWO_MESSAGES_TEXT, old, new, line);
     }
     for (old, new, line) in [
         ("\nddef,", "\nfdef,", "row 9 refused\n"),
@@ -96,8 +95,6 @@ fn record_cells(rt: HostRuntime) -> Result<(), Fail> {
         // Text that stands for itself isn't written in hexadecimal.
         (",mo,", ",0x6D6F00,", "row 16 column 3 refused\n"),
     ] {
-        let text = with_part(rt.alloc(), DEVELOPER_FIELD_TEXT, old, new)?;
-        refuse(&rt, rt.alloc(), text.as_str(), line);
+        refuse_with(&rt, rt.alloc(), DEVELOPER_FIELD_TEXT, old, new, line);
     }
-    Ok(())
 }

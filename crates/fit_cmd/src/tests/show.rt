@@ -2,10 +2,11 @@
 
 use crate::tests::{
     DEVELOPER_FIELD, DEVELOPER_FIELD_SHOWN, EMPTY_WITH_ZEROS, LONG, SHORT, TWO_MESSAGES,
-    TWO_MESSAGES_SHOWN, answer_of, bytes_of, expect,
+    TWO_MESSAGES_SHOWN, expect_of,
 };
 use fit_run::Command;
-use std::test::Fail;
+use std::alloc::Global;
+use std::process::Abort;
 
 /// A file_id message whose product_name is `m` and a line feed.
 const LINE_FEED: &str =
@@ -47,7 +48,7 @@ const STRINGS: &str =
      00 7F 61 62 00 CE 76";
 
 #[test]
-fn good_files(rt: HostRuntime) -> Result<(), Fail> {
+fn good_files(rt: HostRuntime) {
     for (input, output) in [
         (TWO_MESSAGES, TWO_MESSAGES_SHOWN),
         (DEVELOPER_FIELD, DEVELOPER_FIELD_SHOWN),
@@ -75,16 +76,12 @@ fn good_files(rt: HostRuntime) -> Result<(), Fail> {
              define 2 record little 1 0\n  2 record system+268435455: timestamp=268435455 s\nok\n",
         ),
     ] {
-        let bytes = bytes_of(rt.alloc(), input)?;
-        let source = &mut bytes.as_slice();
-        let answer = answer_of(rt.alloc(), Command::Show, source, 2048);
-        expect(&rt, &answer, input, output.as_bytes(), "", 0);
+        expect_of(&rt, rt.alloc(), Command::Show, input, output, "", 0);
     }
-    Ok(())
 }
 
 #[test]
-fn later_messages(rt: HostRuntime) -> Result<(), Fail> {
+fn later_messages(rt: HostRuntime) {
     for (input, output) in [
         (
             TIMES,
@@ -112,56 +109,50 @@ fn later_messages(rt: HostRuntime) -> Result<(), Fail> {
              0 file_id: product_name=0x30783100\n  0 file_id: product_name=0x7F616200\nok\n",
         ),
     ] {
-        let bytes = bytes_of(rt.alloc(), input)?;
-        let source = &mut bytes.as_slice();
-        let answer = answer_of(rt.alloc(), Command::Show, source, 2048);
-        expect(&rt, &answer, input, output.as_bytes(), "", 0);
+        expect_of(&rt, rt.alloc(), Command::Show, input, output, "", 0);
     }
-    Ok(())
 }
 
-#[test]
-fn renamed_fields(rt: HostRuntime) -> Result<(), Fail> {
-    let mut output = String::new(rt.alloc());
-    output.push_str("file 1: header 14, protocol 32, profile 0, data 217, zero\n")?;
+/// Adds some words to a text.
+fn add(rt: &impl Abort, text: &mut String, words: &[&str]) {
+    for word in words {
+        text.push_str(word).expect(rt, "memory");
+    }
+}
+
+/// What is shown of `RENAMED`.
+fn renamed(rt: &impl Abort, alloc: Global) -> String {
+    let mut output = String::new(alloc);
+    let head = "file 1: header 14, protocol 32, profile 0, data 217, zero\n";
+    add(rt, &mut output, &[head]);
+    let described = "  define 0 field_description little 5 0\n  0 field_description: \
+                     developer_data_index=0, field_definition_number=5, fit_base_type_id=132, ";
     for (name, unit) in [
         ("aa", "m"),
         ("ab", "m"),
         ("ab", "s"),
         ("a name of more than thirty-two bytes", ""),
     ] {
-        output.push_str("  define 0 field_description little 5 0\n  0 field_description: ")?;
-        output.push_str(
-            "developer_data_index=0, field_definition_number=5, fit_base_type_id=132, ",
-        )?;
-        for word in ["field_name=", name, ", units=", unit] {
-            output.push_str(word)?;
-        }
+        let words = [described, "field_name=", name, ", units=", unit];
+        add(rt, &mut output, &words);
         let space = if unit.is_empty() { "" } else { " " };
-        output.push_str("\n  define 1 record little 0 1\n")?;
-        for word in [
-            "  1 record: ",
-            name,
-            "=7",
-            space,
-            unit,
-            "\n  1 record: ",
-            name,
-            "=\n",
-        ] {
-            output.push_str(word)?;
-        }
+        let defined = "\n  define 1 record little 0 1\n  1 record: ";
+        add(rt, &mut output, &[defined, name, "=7", space, unit]);
+        add(rt, &mut output, &["\n  1 record: ", name, "=\n"]);
     }
-    output.push_str("ok\n")?;
-    let bytes = bytes_of(rt.alloc(), RENAMED)?;
-    let source = &mut bytes.as_slice();
-    let answer = answer_of(rt.alloc(), Command::Show, source, 2048);
-    expect(&rt, &answer, RENAMED, output.as_str().as_bytes(), "", 0);
-    Ok(())
+    add(rt, &mut output, &["ok\n"]);
+    output
 }
 
 #[test]
-fn refused_files(rt: HostRuntime) -> Result<(), Fail> {
+fn renamed_fields(rt: HostRuntime) {
+    let output = renamed(&rt, rt.alloc());
+    let output = output.as_str();
+    expect_of(&rt, rt.alloc(), Command::Show, RENAMED, output, "", 0);
+}
+
+#[test]
+fn refused_files(rt: HostRuntime) {
     for (input, output) in [
         ("0D", "refused at byte 0: HeaderSize\n"),
         // Messages of 20 bytes are defined, and one of another local type follows.
@@ -178,10 +169,6 @@ fn refused_files(rt: HostRuntime) -> Result<(), Fail> {
              file 2: header 14, protocol 32, profile 0, data 7, sum\nrefused at byte 37: UndefinedLocal\n",
         ),
     ] {
-        let bytes = bytes_of(rt.alloc(), input)?;
-        let source = &mut bytes.as_slice();
-        let answer = answer_of(rt.alloc(), Command::Show, source, 2048);
-        expect(&rt, &answer, input, output.as_bytes(), "", 1);
+        expect_of(&rt, rt.alloc(), Command::Show, input, output, "", 1);
     }
-    Ok(())
 }
