@@ -41,3 +41,6 @@ returns-in-Err-report-clause-chain g c rows text fs b is are chain =
     (chain_converted c.args.first.now g.R.Report.line rows text (g.K.Sink.contents c.args.sink.now) (g.K.Sink.contents c.put_all.new.sink)
     (g.K.Sink.contents c.report.new.sink) (g.K.Sink.has_failed c.report.new.sink)
     source fs (Err c.in-Err-report.fault) c.in_default.ensures.ok (c.in-Err-report.ensures.chain fs b is are chain))
+
+pub returns-in-Ok-clause-works : goal.returns-in-Ok-clause-works
+returns-in-Ok-clause-works g c long = c.in-Ok.ensures.works (c.in_default.ensures.works long)

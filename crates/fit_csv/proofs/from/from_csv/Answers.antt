@@ -12,3 +12,9 @@ returns-clause-chain g c text files bytes input is =
     })
     (record { before = g.K.Sink.contents c.args.sink.now; after = g.K.Sink.contents c.convert.new.sink; failed = g.K.Sink.has_failed c.convert.new.sink })
     input is c.convert.result c.convert.ensures.reads
+
+pub returns-clause-reads : goal.returns-clause-reads
+returns-clause-reads g c = c.convert.ensures.reads
+
+pub returns-clause-unchanged : goal.returns-clause-unchanged
+returns-clause-unchanged g c = c.convert.ensures.unchanged
