@@ -1,5 +1,5 @@
 -- What is kept for local message types and known to be that of their definitions.
-use Rattle.fit_texts.proofs.Common.{◌≡◌, ◌∙◌, sym, ap, subst, true, inl, inr, refl, zero, suc, [], ◌∷◌, set, slice_get}
+use Rattle.fit_texts.proofs.Common.{◌≡◌, ◌∙◌, sym, ap, subst, true, inl, inr, false, refl, zero, suc, [], ◌∷◌, set, slice_get}
 use Rattle.fit_texts.proofs.Common.{Defined, Record, Global, defined_at, known, AreCurrent, IsCurrent, Renews}
 use Rattle.std.proofs.Common.{ℕ, List, Some}
 use Rattle.std.proofs.lemmas.Bool.{cases_eq}
@@ -13,6 +13,23 @@ elsewhere (y ∷ xs) zero zero x other = absurd (other refl)
 elsewhere (y ∷ xs) zero (suc k) x other = refl
 elsewhere (y ∷ xs) (suc i) zero x other = refl
 elsewhere (y ∷ xs) (suc i) (suc k) x other = elsewhere xs i k x (λ e. other (ap suc e))
+
+-- what was set at a place stands there
+there : {A : Type 0} (xs : List A) (i : ℕ) (x y : A) → slice_get (set xs i x) i ≡ Some y → x ≡ y
+there [] zero x y is = absurd cc
+there [] (suc i) x y is = absurd cc
+there (z ∷ xs) zero x y is = same_Some x y is
+there (z ∷ xs) (suc i) x y is = there xs i x y is
+
+-- nothing is known any more for a local message type
+pub unknown : {T : Type 0} (old new : ByLocal T) (local : ℕ) (item : T) → new.current ≡ set old.current local false
+    → ((other : ℕ) (t : T) → (other ≡ local → ⊥) → slice_get old.items.items other ≡ Some (Some t) → slice_get new.items.items other ≡ Some (Some t))
+    → Renews old new local item
+unknown old new local item flags others = (
+  λ flag. let both : false ≡ true = there old.current local false true (sym (ap (λ fs. slice_get fs local) flags) ∙ flag) in absurd cc,
+  λ other t differs was flag.
+      others other t differs (was (sym (elsewhere old.current local other false differs) ∙ sym (ap (λ fs. slice_get fs other) flags) ∙ flag)),
+)
 
 -- what is kept is found to be that of the definition of its local message type
 pub noted : {T : Type 0} (old new : ByLocal T) (local : ℕ) (item : T) → new.items.items ≡ old.items.items → new.current ≡ set old.current local true
