@@ -1,9 +1,9 @@
 -- Whole files whose bytes are known from elsewhere: each value below is proved to be the file of its bytes.
-use Rattle.fit_record.proofs.Common.{◌≡◌, ℕ, ◌<◌, ◌^◌, Bool, true, false, ◌&&◌, List, [], ◌∷◌, length, refl, None, Some, arith, lit<, ltb-true, and_parts}
+use Rattle.fit_record.proofs.Common.{◌≡◌, ℕ, ◌<◌, ◌^◌, Bool, true, false, ◌&&◌, List, [], ◌∷◌, length, refl, None, Some, arith, lit<, ltb-true, and_parts, eqb-false}
 use Rattle.fit_record.proofs.Common.{Items, checksum, FieldDef, DevDef, FitFile, Record, Define, Environment, empty_environment, learn, AllFit, first_fault}
 use Rattle.fit_record.proofs.Common.{body, IsWellFormed, IsFile}
 use Rattle.std.specs.Prelude.{Option, nat_lt}
-use Rattle.fit_frame.specs.Header.{SizeFits, ZeroIsSum}
+use Rattle.fit_frame.specs.Header.{SizeFits, ZeroIsSum, fixed_part}
 use Rattle.fit_record.specs.Faults.{HasRange}
 use Rattle.fit_record.proofs.NoFaultWhereFits.{faults_are_exact}
 use Rattle.fit_frame.specs.declared.header.Header.{Header}
@@ -77,13 +77,19 @@ fits f size protocol one two four sum records = record {
   records = all_fit empty_environment f.records records;
 }
 
+true_is_not_zero : sums.True ≡ sums.Zero → ⊥
+true_is_not_zero same = cc
+
+absent_is_not_zero : sums.Absent ≡ sums.Zero → ⊥
+absent_is_not_zero same = cc
+
 -- an empty file
 abbrev pub empty_file : FitFile (Unit {0})
 empty_file = file_of (header_of 14 sums.True) []
 
 pub empty_file_bytes : IsFile empty_file (0x0E ∷ 0x20 ∷ 0 ∷ 0 ∷ 0 ∷ 0 ∷ 0 ∷ 0 ∷ 0x2E ∷ 0x46 ∷ 0x49 ∷ 0x54 ∷ 0x9C ∷ 0x85 ∷ 0 ∷ 0 ∷ [])
 unfolding checksum
-empty_file_bytes = (fits empty_file refl refl (lit< tt) (lit< tt) (lit< tt) (λ z. let word = z.0 in cc) refl, refl)
+empty_file_bytes = (fits empty_file refl refl (lit< tt) (lit< tt) (lit< tt) (λ z. true_is_not_zero z.0) refl, refl)
 
 -- zeros in place of the header's sum
 abbrev pub zeros_for_a_sum : FitFile (Unit {0})
@@ -91,7 +97,7 @@ zeros_for_a_sum = file_of (header_of 14 sums.Zero) []
 
 pub zeros_for_a_sum_bytes : IsFile zeros_for_a_sum (0x0E ∷ 0x20 ∷ 0 ∷ 0 ∷ 0 ∷ 0 ∷ 0 ∷ 0 ∷ 0x2E ∷ 0x46 ∷ 0x49 ∷ 0x54 ∷ 0 ∷ 0 ∷ 0xA8 ∷ 0xA3 ∷ [])
 unfolding checksum
-zeros_for_a_sum_bytes = (fits zeros_for_a_sum refl refl (lit< tt) (lit< tt) (lit< tt) (λ z. let zero_sum = z.1 in cc) refl, refl)
+zeros_for_a_sum_bytes = (fits zeros_for_a_sum refl refl (lit< tt) (lit< tt) (lit< tt) (λ z. eqb-false (checksum (fixed_part zeros_for_a_sum.header 0)) 0 refl z.1) refl, refl)
 
 -- a header of twelve bytes
 abbrev pub short_header : FitFile (Unit {0})
@@ -99,7 +105,7 @@ short_header = file_of (header_of 12 sums.Absent) []
 
 pub short_header_bytes : IsFile short_header (0x0C ∷ 0x20 ∷ 0 ∷ 0 ∷ 0 ∷ 0 ∷ 0 ∷ 0 ∷ 0x2E ∷ 0x46 ∷ 0x49 ∷ 0x54 ∷ 0x65 ∷ 0x42 ∷ [])
 unfolding checksum
-short_header_bytes = (fits short_header (refl, refl) refl (lit< tt) (lit< tt) (lit< tt) (λ z. let word = z.0 in cc) refl, refl)
+short_header_bytes = (fits short_header (refl, refl) refl (lit< tt) (lit< tt) (lit< tt) (λ z. absent_is_not_zero z.0) refl, refl)
 
 -- a definition without fields, and a message of one byte
 abbrev pub one_byte_message : FitFile (Unit {0})
@@ -108,7 +114,7 @@ one_byte_message = file_of (header_of 14 sums.True) (defines 0 20 [] None ∷ me
 pub one_byte_message_bytes : IsFile one_byte_message
     (0x0E ∷ 0x20 ∷ 0 ∷ 0 ∷ 7 ∷ 0 ∷ 0 ∷ 0 ∷ 0x2E ∷ 0x46 ∷ 0x49 ∷ 0x54 ∷ 0xDD ∷ 0x63 ∷ 0x40 ∷ 0 ∷ 0 ∷ 0x14 ∷ 0 ∷ 0 ∷ 0 ∷ 0x44 ∷ 0x34 ∷ [])
 unfolding checksum
-one_byte_message_bytes = (fits one_byte_message refl refl (lit< tt) (lit< tt) (lit< tt) (λ z. let word = z.0 in cc) refl, refl)
+one_byte_message_bytes = (fits one_byte_message refl refl (lit< tt) (lit< tt) (lit< tt) (λ z. true_is_not_zero z.0) refl, refl)
 
 -- both architectures, and a compressed header
 abbrev pub both_architectures : FitFile (Unit {0})
@@ -127,7 +133,7 @@ pub both_architectures_bytes : IsFile both_architectures
     ∷ 0xA2 ∷ 9 ∷ 0xC4 ∷ 0x64 ∷ 0 ∷ 0x10
     ∷ 0xF0 ∷ 0x3B ∷ [])
 unfolding checksum
-both_architectures_bytes = (fits both_architectures refl refl (lit< tt) (lit< tt) (lit< tt) (λ z. let word = z.0 in cc) refl, refl)
+both_architectures_bytes = (fits both_architectures refl refl (lit< tt) (lit< tt) (lit< tt) (λ z. true_is_not_zero z.0) refl, refl)
 
 -- messages of local type 1 with developer field 5 of index 0, of two bytes
 abbrev pub power : Record (Unit {0})
@@ -164,7 +170,7 @@ pub described_field_bytes : IsFile described_field
     ∷ 1 ∷ 0x34 ∷ 0x12
     ∷ 0x4A ∷ 0x8B ∷ [])
 unfolding checksum
-described_field_bytes = (fits described_field refl refl (lit< tt) (lit< tt) (lit< tt) (λ z. let word = z.0 in cc) refl, refl)
+described_field_bytes = (fits described_field refl refl (lit< tt) (lit< tt) (lit< tt) (λ z. true_is_not_zero z.0) refl, refl)
 
 -- a header of sixteen bytes, with two after its sum
 abbrev pub long_header : FitFile (Unit {0})
@@ -172,7 +178,7 @@ long_header = file_of (record { size = 16; protocol = 32; profile = 0; sum = sum
 
 pub long_header_bytes : IsFile long_header (0x10 ∷ 0x20 ∷ 0 ∷ 0 ∷ 0 ∷ 0 ∷ 0 ∷ 0 ∷ 0x2E ∷ 0x46 ∷ 0x49 ∷ 0x54 ∷ 0xB4 ∷ 0xAD ∷ 0x41 ∷ 0x42 ∷ 0xB0 ∷ 0x61 ∷ [])
 unfolding checksum
-long_header_bytes = (fits long_header refl refl (lit< tt) (lit< tt) (lit< tt) (λ z. let word = z.0 in cc) refl, refl)
+long_header_bytes = (fits long_header refl refl (lit< tt) (lit< tt) (lit< tt) (λ z. true_is_not_zero z.0) refl, refl)
 
 -- a true sum of 0
 abbrev pub sum_of_zero : FitFile (Unit {0})
@@ -180,4 +186,4 @@ sum_of_zero = file_of (record { size = 14; protocol = 32; profile = 46477; sum =
 
 pub sum_of_zero_bytes : IsFile sum_of_zero (0x0E ∷ 0x20 ∷ 0x8D ∷ 0xB5 ∷ 0 ∷ 0 ∷ 0 ∷ 0 ∷ 0x2E ∷ 0x46 ∷ 0x49 ∷ 0x54 ∷ 0 ∷ 0 ∷ 0 ∷ 0 ∷ [])
 unfolding checksum
-sum_of_zero_bytes = (fits sum_of_zero refl refl (lit< tt) (lit< tt) (lit< tt) (λ z. let word = z.0 in cc) refl, refl)
+sum_of_zero_bytes = (fits sum_of_zero refl refl (lit< tt) (lit< tt) (lit< tt) (λ z. true_is_not_zero z.0) refl, refl)
