@@ -1,5 +1,5 @@
 -- A record that is whole in the piece is told; where there is none nothing has changed.
-use Rattle.fit_decode.proofs.Common.{◌≡◌, ◌∙◌, ◌++◌, refl, arith, Ok, take, rules, layout, slice_is_bytes, fields_inside}
+use Rattle.fit_decode.proofs.Common.{◌≡◌, ◌∙◌, ◌++◌, refl, arith, Ok, take, layout, slice_is_bytes, fields_inside}
 use Rattle.fit_decode.specs.contracts.decoder.Decoder.{the_row}
 use Rattle.fit_decode.specs.contracts.decoder.Decoder.feed.{A-row}
 use Rattle.fit_record.specs.declared.message.Record.TheVariants.{Values as Message}
@@ -55,7 +55,7 @@ stays g c =
 
 pub read_message-requires : goal.read_message-requires
 read_message-requires g c = (
-  field_is_within 3 (layout (the_row (A-row g.row.A) g.A.Allocator)) _ (search rules),
+  field_is_within 3 (layout (the_row (A-row g.row.A) g.A.Allocator)) _ assumption,
   data_reading c.self.invariant c.in-Data.is,
 )
 
@@ -90,7 +90,7 @@ returns-in-Ok-Some g c =
 
 pub read_whole_definition-requires : goal.read_whole_definition-requires
 read_whole_definition-requires g c = (
-  field_is_within 3 (layout (the_row (A-row g.row.A) g.A.Allocator)) _ (search rules),
+  field_is_within 3 (layout (the_row (A-row g.row.A) g.A.Allocator)) _ assumption,
   rw (unread g (goal.at.read_whole_definition-requires g c).Joined-read_message) (data_reading c.self.invariant c.in-Data.is),
 )
 

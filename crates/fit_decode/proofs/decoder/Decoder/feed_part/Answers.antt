@@ -1,4 +1,4 @@
-use Rattle.fit_decode.proofs.Common.{◌≡◌, None, Ok, Err, refl, sym, ap, ◌∙◌, rules, layout, slice_is_bytes, fields_inside, refusal_of}
+use Rattle.fit_decode.proofs.Common.{◌≡◌, None, Ok, Err, refl, sym, ap, ◌∙◌, layout, slice_is_bytes, fields_inside, refusal_of}
 use Rattle.fit_decode.specs.contracts.decoder.Decoder.{the_row}
 use Rattle.fit_decode.specs.contracts.decoder.Decoder.feed_part.{A-row}
 use Rattle.fit_step.specs.declared.stop.Stop.TheVariants as stops
@@ -80,18 +80,18 @@ feed_header-requires-clause-begun g c = header_open c.self.invariant c.in-Header
 
 pub feed_data-requires : goal.feed_data-requires
 feed_data-requires g c = (
-  field_is_within 3 (layout (the_row (A-row g.row.A) g.A.Allocator)) _ (search rules),
+  field_is_within 3 (layout (the_row (A-row g.row.A) g.A.Allocator)) _ assumption,
   data_reading c.self.invariant c.in-Data.is,
 )
 
 pub feed_sum-requires : goal.feed_sum-requires
 feed_sum-requires g c = (
-  field_is_within 3 (layout (the_row (A-row g.row.A) g.A.Allocator)) _ (search rules),
+  field_is_within 3 (layout (the_row (A-row g.row.A) g.A.Allocator)) _ assumption,
   sum_few c.self.invariant c.in-ClosingSum.is,
 )
 
 pub let_go-requires : goal.let_go-requires
-let_go-requires g c = field_is_within 3 (layout (the_row (A-row g.row.A) g.A.Allocator)) _ (search rules)
+let_go-requires g c = field_is_within 3 (layout (the_row (A-row g.row.A) g.A.Allocator)) _ assumption
 
 pub count_fed-requires-clause-within : goal.count_fed-requires-clause-within
 count_fed-requires-clause-within g c = within (took g (goal.at.count_fed-requires-clause-within g c).Joined-self)

@@ -1,4 +1,4 @@
-use Rattle.fit_decode.proofs.Common.{rules, layout}
+use Rattle.fit_decode.proofs.Common.{layout}
 use Rattle.fit_decode.specs.contracts.decoder.Decoder.{the_row}
 use Rattle.fit_decode.specs.contracts.decoder.Decoder.held.{A-row}
 use Rattle.fit_decode.proofs.Sizes.{field_is_within}
@@ -6,7 +6,7 @@ use Rattle.fit_decode.proofs.Holding.{small_seen, held_seen, let_go_seen, ended_
 use Rattle.fit_decode.proofs.decoder.Decoder.held.Goals as goal
 
 pub held-requires : goal.held-requires
-held-requires g c = field_is_within 3 (layout (the_row (A-row g.row.A) g.A.Allocator)) _ (search rules)
+held-requires g c = field_is_within 3 (layout (the_row (A-row g.row.A) g.A.Allocator)) _ assumption
 
 pub in_progress_size-requires : goal.in_progress_size-requires
 in_progress_size-requires g c = small_seen c.self.inside c.self.invariant

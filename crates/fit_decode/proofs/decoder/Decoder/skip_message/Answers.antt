@@ -1,4 +1,4 @@
-use Rattle.fit_decode.proofs.Common.{[], ◌∷◌, ◌++◌, refl, ap, ◌∙◌, take, arith, append-nil, record_bytes, rules, layout, slice_is_bytes, refusal_of}
+use Rattle.fit_decode.proofs.Common.{[], ◌∷◌, ◌++◌, refl, ap, ◌∙◌, take, arith, append-nil, record_bytes, layout, slice_is_bytes, refusal_of}
 use Rattle.fit_decode.specs.contracts.decoder.Decoder.{the_row}
 use Rattle.fit_decode.specs.contracts.decoder.Decoder.skip_message.{A-row}
 use Rattle.fit_decode.proofs.Sizes.{field_is_within}
@@ -12,7 +12,7 @@ pub returns-in_default-clause-viable : goal.returns-in_default-clause-viable
 returns-in_default-clause-viable g c = was_viable c.self.inside c.self.invariant c.args.self.now c.self.view_is
 
 pub skip_message_in_section-size-requires : goal.skip_message_in_section-size-requires
-skip_message_in_section-size-requires g c = field_is_within 3 (layout (the_row (A-row g.row.A) g.A.Allocator)) _ (search rules)
+skip_message_in_section-size-requires g c = field_is_within 3 (layout (the_row (A-row g.row.A) g.A.Allocator)) _ assumption
 
 pub cover-requires : goal.cover-requires
 cover-requires g c = c.skip_message_in_section-size.ensures.within

@@ -1,4 +1,4 @@
-use Rattle.fit_decode.proofs.Common.{[], ◌++◌, take, refl, ap, sym, subst, append-nil, AreEvents, rules, layout, slice_is_bytes, refusal_of}
+use Rattle.fit_decode.proofs.Common.{[], ◌++◌, take, refl, ap, sym, subst, append-nil, AreEvents, layout, slice_is_bytes, refusal_of}
 use Rattle.fit_decode.specs.contracts.decoder.Decoder.{the_row}
 use Rattle.fit_decode.specs.contracts.decoder.Decoder.skip_records.{A-row}
 use Rattle.fit_decode.proofs.Sizes.{field_is_within}
@@ -10,7 +10,7 @@ pub returns-in_default-clause-viable : goal.returns-in_default-clause-viable
 returns-in_default-clause-viable g c = was_viable c.self.inside c.self.invariant c.args.self.now c.self.view_is
 
 pub skip_in_section-skipped-requires : goal.skip_in_section-skipped-requires
-skip_in_section-skipped-requires g c = field_is_within 3 (layout (the_row (A-row g.row.A) g.A.Allocator)) _ (search rules)
+skip_in_section-skipped-requires g c = field_is_within 3 (layout (the_row (A-row g.row.A) g.A.Allocator)) _ assumption
 
 pub cover-requires : goal.cover-requires
 cover-requires g c = c.skip_in_section-skipped.ensures.within

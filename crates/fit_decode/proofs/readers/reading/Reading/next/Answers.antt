@@ -1,5 +1,5 @@
 -- Until a fault a reading is after some files, and takes the next one.
-use Rattle.fit_decode.proofs.Common.{rules, [], ◌∷◌, ◌++◌, length, Ok, Err, refl, sym, ap, ◌∙◌, subst, layout, chain_limit, IsViable, IsEnd, Channel}
+use Rattle.fit_decode.proofs.Common.{[], ◌∷◌, ◌++◌, length, Ok, Err, refl, sym, ap, ◌∙◌, subst, layout, chain_limit, IsViable, IsEnd, Channel}
 use Rattle.fit_decode.specs.contracts.readers.reading.Reading.{the_row}
 use Rattle.fit_decode.specs.contracts.readers.reading.Reading.next.{S-row, A-row}
 use Rattle.fit_decode.specs.Answers.{Seen}
@@ -15,7 +15,7 @@ returns-in-Some-clause-latched g c = rw (← c.self.view_is) (λ fault is. let b
 pub read_file-requires : goal.read_file-requires
 read_file-requires g c =
     let (files, beyond) = c.self.invariant c.in_default.is in (
-      field_is_within 3 (layout (the_row (S-row g.row.S g.row.A) (A-row g.row.S g.row.A) g.S.Source g.A.Allocator)) _ (search rules),
+      field_is_within 3 (layout (the_row (S-row g.row.S g.row.A) (A-row g.row.S g.row.A) g.S.Source g.A.Allocator)) _ assumption,
       (
         ap (λ (v : Seen). v.refusal) beyond.fed,
         (
@@ -26,7 +26,7 @@ read_file-requires g c =
     )
 
 pub is_end-requires : goal.is_end-requires
-is_end-requires g c = field_is_within 3 (layout (the_row (S-row g.row.S g.row.A) (A-row g.row.S g.row.A) g.S.Source g.A.Allocator)) _ (search rules)
+is_end-requires g c = field_is_within 3 (layout (the_row (S-row g.row.S g.row.A) (A-row g.row.S g.row.A) g.S.Source g.A.Allocator)) _ assumption
 
 -- ---- a file
 
