@@ -1,5 +1,6 @@
 pub mod Common
 pub mod Written
+pub mod OneOfAll
 pub mod Sendings
 pub mod Places
 pub mod Runs

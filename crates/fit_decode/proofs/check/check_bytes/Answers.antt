@@ -40,7 +40,7 @@ finishes c = record { good = c.finish.ensures.good; truncated = c.finish.ensures
 pub returns-in-Err-clause-fault : goal.returns-in-Err-clause-fault
 returns-in-Err-clause-fault c =
     let before = passed (goal.at.returns-in-Err-clause-fault c).After-split_at in
-    let short : length c.args.bytes.now < 2 ^ 64 = search rules in
+    let short : length c.args.bytes.now < 2 ^ 64 = assumption in
     subst (IsFaultOf c.args.bytes.now) (sym c.after.ensures)
     (stopped c.args.bytes.now c.skip_records-passed.new.self c.feed.new.self c.split_at.result.1.now c.in-Err.fault short before
     (halted (goal.at.returns-in-Err-clause-fault c).In-Err before))
@@ -48,7 +48,7 @@ returns-in-Err-clause-fault c =
 pub returns-in-Err-clause-place : goal.returns-in-Err-clause-place
 returns-in-Err-clause-place c =
     let before = passed (goal.at.returns-in-Err-clause-place c).After-split_at in
-    let short : length c.args.bytes.now < 2 ^ 64 = search rules in
+    let short : length c.args.bytes.now < 2 ^ 64 = assumption in
     subst (LacksMemoryAt c.args.bytes.now) (sym c.after.ensures)
     (stopped_at c.args.bytes.now c.skip_records-passed.new.self c.feed.new.self c.split_at.result.1.now c.in-Err.fault short before
     (halted (goal.at.returns-in-Err-clause-place c).In-Err before))

@@ -33,7 +33,7 @@ loop-i-preserved c =
 
 pub overflow_add-result : goal.overflow_add-result
 overflow_add-result c =
-    let short : length c.args.piece.now < 2 ^ 64 = search rules in
+    let short : length c.args.piece.now < 2 ^ 64 = assumption in
     omega (arith, c.loop-i-test.true, short)
 
 pub returns-in-Err : goal.returns-in-Err

@@ -32,3 +32,12 @@ returns-then-is_empty-clause-err g c = inr (λ allowed. elim c.then-is_empty.bra
   | then-is_empty-via-then-is_empty w ↦ omega (arith, eqb-true (length c.args.files.now) 0 (sym c.is_empty.ensures ∙ w.if-is_empty.true), allowed.0)
   | then-is_empty-via-else-is_empty+then-files w ↦ omega (arith, w.if-files.true, allowed.1)
 ])
+
+pub loop-place-init : goal.loop-place-init
+loop-place-init g c = tt
+
+pub returns-clause-err : goal.returns-clause-err
+returns-clause-err g c = tt
+
+pub returns-then-is_empty-clause-ok : goal.returns-then-is_empty-clause-ok
+returns-then-is_empty-clause-ok g c = tt

@@ -1,4 +1,5 @@
-use Rattle.fit_encode.proofs.Common.{◌≡◌, ◌∙◌, inr, take, length, sym, ap, subst, arith, take_all, empty_environment, learn, AllFit, records_bytes, rules}
+use Rattle.fit_encode.proofs.Common.{◌≡◌, ◌∙◌, inr, take, length, sym, ap, subst, arith, take_all, empty_environment, learn, AllFit, records_bytes, inl, refl}
+use Rattle.std.proofs.Common.{lit<}
 use Rattle.fit_encode.proofs.FaultSteps.{on_ok_at, shape_at, long_at, measured_past}
 use Rattle.fit_encode.proofs.check.measure.Goals as goal
 
@@ -33,4 +34,37 @@ returns-clause-ok g c =
     (subst (AllFit {A = g.row.A.Denot} empty_environment) all inv.fit, inv.total ∙ ap (λ x. length (records_bytes {A = g.row.A.Denot} empty_environment x)) all)
 
 pub loop-index-init : goal.loop-index-init
-loop-index-init g c = search rules
+loop-index-init g c = record { known = c.new.ensures; small = lit< tt; fit = tt; total = refl }
+
+pub fits-requires : goal.fits-requires
+fits-requires g c = assumption
+
+pub learn-requires : goal.learn-requires
+learn-requires g c = (assumption, c.in-Ok.ensures.ok.0)
+
+pub returns-in-Err-clause-ok : goal.returns-in-Err-clause-ok
+returns-in-Err-clause-ok g c = tt
+
+pub returns-in-Err-clause-small : goal.returns-in-Err-clause-small
+returns-in-Err-clause-small g c = tt
+
+pub returns-in_default-clause-ok : goal.returns-in_default-clause-ok
+returns-in_default-clause-ok g c = tt
+
+pub returns-in_default-clause-small : goal.returns-in_default-clause-small
+returns-in_default-clause-small g c = tt
+
+pub returns-then-is_err-clause-ok : goal.returns-then-is_err-clause-ok
+returns-then-is_err-clause-ok g c = tt
+
+pub returns-then-is_err-clause-small : goal.returns-then-is_err-clause-small
+returns-then-is_err-clause-small g c = tt
+
+pub returns-then-is_err-clause-err : goal.returns-then-is_err-clause-err
+returns-then-is_err-clause-err g c = inl refl
+
+pub returns-clause-small : goal.returns-clause-small
+returns-clause-small g c = c.loop-index.invariant.small
+
+pub returns-clause-err : goal.returns-clause-err
+returns-clause-err g c = tt

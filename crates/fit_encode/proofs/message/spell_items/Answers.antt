@@ -1,5 +1,5 @@
-use Rattle.fit_encode.proofs.Common.{refl, ap, arith, flat_map, number_bytes}
-use Rattle.fit_encode.proofs.Sendings.{Spells-next, Breaks-next, Breaks-as, Sends-err}
+use Rattle.fit_encode.proofs.Common.{refl, ap, ◌∙◌, arith, flat_map, take_all, number_bytes}
+use Rattle.fit_encode.proofs.Sendings.{Spells-none, Spells-as, Spells-next, Breaks-next, Breaks-as, Sends-err}
 use Rattle.fit_encode.proofs.message.spell_items.Goals as goal
 
 pub returns-in_err-number : goal.returns-in_err-number
@@ -15,3 +15,12 @@ loop-bits-preserved g c =
     Spells-next (number_bytes c.args.order c.args.items.now.width) c.as_slice-bits-items.result.now c.loop-bits.bits-index 0 _ (omega arith) refl
     c.loop-bits.invariant
     c.in_ok-number.ensures
+
+pub loop-bits-init : goal.loop-bits-init
+loop-bits-init g c = Spells-none _ _
+
+pub returns : goal.returns
+returns g c =
+    let bits = c.as_slice-bits-items in
+    let all = take_all c.loop-bits.bits-index bits.result.now c.loop-bits-test.false ∙ bits.ensures in
+    Spells-as (ap (flat_map (number_bytes c.args.order c.args.items.now.width)) all) c.loop-bits.invariant

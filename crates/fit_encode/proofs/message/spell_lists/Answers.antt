@@ -1,5 +1,6 @@
-use Rattle.fit_encode.proofs.Common.{arith, items_bytes}
-use Rattle.fit_encode.proofs.Sendings.{Spells-next, Breaks-next, Sends-err}
+use Rattle.fit_encode.proofs.Common.{ap, arith, flat_map, take_all, items_bytes, HasBytes}
+use Rattle.fit_encode.proofs.OneOfAll.{each_at}
+use Rattle.fit_encode.proofs.Sendings.{Spells-none, Spells-as, Spells-next, Breaks-next, Sends-err}
 use Rattle.fit_encode.proofs.message.spell_lists.Goals as goal
 
 pub returns-in_err-spell_items : goal.returns-in_err-spell_items
@@ -13,3 +14,14 @@ loop-items-preserved g c =
     Spells-next (items_bytes {A = g.row.A.Denot} c.args.order) c.args.lists.now c.loop-items.items-index c.items-item.result _ (omega arith) c.items-item.is
     c.loop-items.invariant
     c.in_ok-spell_items.ensures
+
+pub loop-items-init : goal.loop-items-init
+loop-items-init g c = Spells-none _ _
+
+pub spell_items-requires : goal.spell_items-requires
+spell_items-requires g c = each_at HasBytes c.args.lists.now c.loop-items.items-index c.items-item.result (omega arith) c.items-item.is c.requires
+
+pub returns : goal.returns
+returns g c =
+    let all = take_all c.loop-items.items-index c.args.lists.now c.loop-items-test.false in
+    Spells-as (ap (flat_map (items_bytes {A = g.row.A.Denot} c.args.order)) all) c.loop-items.invariant

@@ -1,5 +1,6 @@
-use Rattle.fit_encode.proofs.Common.{take, arith, items_bytes, ◌++◌, ◌∙◌, ap, length, take_all, flat_map}
+use Rattle.fit_encode.proofs.Common.{take, arith, sym, add-zero, append-nil, HasBytes, items_bytes, ◌++◌, ◌∙◌, ap, length, take_all, flat_map}
 use Rattle.std.proofs.Common.{◌+◌}
+use Rattle.fit_encode.proofs.OneOfAll.{each_at}
 use Rattle.fit_encode.proofs.Places.{part_within, part_end, part_written}
 use Rattle.fit_encode.proofs.place.place_lists.Goals as goal
 
@@ -30,3 +31,12 @@ returns-clause-text g c =
     c.loop-items.invariant.text
     ∙ ap (λ l. take c.args.at c.args.bytes.now ++ flat_map (items_bytes {A = g.row.A.Denot} c.args.order) l)
     (take_all c.loop-items.items-index c.args.lists.now (omega arith))
+
+pub place_items-at-requires-clause-items : goal.place_items-at-requires-clause-items
+place_items-at-requires-clause-items g c = each_at HasBytes c.args.lists.now c.loop-items.items-index c.items-item.result (omega arith) c.items-item.is c.requires.lists
+
+pub loop-items-init : goal.loop-items-init
+loop-items-init g c = record { end = sym (add-zero c.args.at); text = sym (append-nil (take c.args.at c.args.bytes.now)) }
+
+pub returns-clause-size : goal.returns-clause-size
+returns-clause-size g c = c.loop-items.auto.bytes

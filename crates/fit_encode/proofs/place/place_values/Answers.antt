@@ -1,4 +1,4 @@
-use Rattle.fit_encode.proofs.Common.{◌≡◌, ℕ, List, [], ◌∷◌, ◌++◌, length, ap, ◌∙◌, append_assoc, length-append, arith, flat_map, items_bytes}
+use Rattle.fit_encode.proofs.Common.{◌≡◌, ℕ, List, [], ◌∷◌, ◌++◌, length, ap, ◌∙◌, append_assoc, length-append, arith, flat_map, items_bytes, sym, subst, AllByRecursion, HasBytes}
 use Rattle.std.proofs.Common.{◌+◌}
 use Rattle.fit_encode.proofs.place.place_values.Goals as goal
 
@@ -26,3 +26,33 @@ returns-clause-text g c =
     c.place_lists.ensures.text ∙ ap (λ l. l ++ flat_map part c.as_slice-2.result.now)
     (c.place_lists-at.ensures.text ∙ ap (λ l. l ++ flat_map part c.as_slice.result.now) c.place_bytes-at.ensures.text)
     ∙ both_after part _ c.data_header.result _ c.as_slice.result.now c.as_slice-2.result.now _ _ c.data_header.ensures c.as_slice.ensures c.as_slice-2.ensures
+
+pub data_header-requires : goal.data_header-requires
+data_header-requires g c = c.requires.header
+
+pub place_bytes-at-requires : goal.place_bytes-at-requires
+place_bytes-at-requires g c = omega (arith, c.requires.room)
+
+pub place_lists-at-requires-clause-lists : goal.place_lists-at-requires-clause-lists
+place_lists-at-requires-clause-lists g c = subst (AllByRecursion HasBytes) (sym c.as_slice.ensures) c.requires.fields
+
+pub place_lists-at-requires-clause-room : goal.place_lists-at-requires-clause-room
+place_lists-at-requires-clause-room g c =
+    let part = items_bytes {A = g.row.A.Denot} c.args.order in
+    let v = c.args.v.now in
+    omega (arith, c.requires.room, c.place_bytes-at.ensures.size, c.place_bytes-at.ensures.end, ap (λ l. length (flat_map part l)) c.as_slice.ensures,
+    length-append (flat_map part v.fields) (flat_map part v.dev))
+
+pub place_lists-requires-clause-lists : goal.place_lists-requires-clause-lists
+place_lists-requires-clause-lists g c = subst (AllByRecursion HasBytes) (sym c.as_slice-2.ensures) c.requires.dev_fields
+
+pub place_lists-requires-clause-room : goal.place_lists-requires-clause-room
+place_lists-requires-clause-room g c =
+    let part = items_bytes {A = g.row.A.Denot} c.args.order in
+    let v = c.args.v.now in
+    omega (arith, c.requires.room, c.place_bytes-at.ensures.size, c.place_bytes-at.ensures.end, c.place_lists-at.ensures.size, c.place_lists-at.ensures.end,
+    ap (λ l. length (flat_map part l)) c.as_slice.ensures, ap (λ l. length (flat_map part l)) c.as_slice-2.ensures,
+    length-append (flat_map part v.fields) (flat_map part v.dev))
+
+pub returns-clause-size : goal.returns-clause-size
+returns-clause-size g c = c.place_lists.ensures.size ∙ c.place_lists-at.ensures.size ∙ c.place_bytes-at.ensures.size

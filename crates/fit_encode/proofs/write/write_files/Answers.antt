@@ -1,14 +1,10 @@
-use Rattle.fit_encode.proofs.Common.{◌≡◌, ◌∙◌, ℕ, ◌<◌, List, [], ◌∷◌, length, get_or, sym, ap, subst, arith, err_from_is_err_and, Record}
+use Rattle.fit_encode.proofs.Common.{◌<◌, List, length, sym, ap, ◌∙◌, subst, arith, err_from_is_err_and, Record, refl, flat_map, take_all, file_bytes, Appends-nil}
 use Rattle.fit_encode.proofs.Common.{empty_environment, AllFit, records_bytes}
-use Rattle.fit_encode.proofs.Common.{IsWellFormed, AllByRecursion}
-use Rattle.std.proofs.Common.{zero, suc}
+use Rattle.fit_encode.proofs.Common.{IsWellFormed}
+use Rattle.fit_encode.proofs.OneOfAll.{each_at}
+use Rattle.fit_encode.proofs.Sendings.{Appends-as}
 use Rattle.fit_encode.proofs.FilesPut.{chain_stops, one_more_put}
 use Rattle.fit_encode.proofs.write.write_files.Goals as goal
-
-each_at : {X : Type 0} (P : X → Type 0) (xs : List X) (i : ℕ) (x : X) → i < length xs → x ≡ get_or xs i x → AllByRecursion P xs → P x
-each_at P [] i x less is all = absurd (omega arith)
-each_at P (y ∷ ys) zero x less is all = subst P (sym is) all.0
-each_at P (y ∷ ys) (suc i) x less is all = each_at P ys i x (omega arith) is all.1
 
 pub data_length-requires-clause-fit : goal.data_length-requires-clause-fit
 data_length-requires-clause-fit g c =
@@ -46,3 +42,21 @@ returns-in_err-count-clause-ok g c = let p = err_from_is_err_and c.from_residual
 
 pub returns-in_err-count-clause-works : goal.returns-in_err-count-clause-works
 returns-in_err-count-clause-works g c = let p = err_from_is_err_and c.from_residual.result c.from_residual.ensures.1 in rw p.1 tt
+
+pub loop-file-init : goal.loop-file-init
+loop-file-init g c = record {
+  appended = Appends-nil (g.K.Sink.contents c.args.sink.now);
+  total = λ _. refl;
+  works = λ some. absurd (let none : 0 < 0 = some in omega arith);
+}
+
+pub write_file-requires-clause-good : goal.write_file-requires-clause-good
+write_file-requires-clause-good g c = each_at IsWellFormed c.args.files.now c.loop-file.file-index c.file-item.result (omega arith) c.file-item.is c.requires.each
+
+pub returns-clause-ok : goal.returns-clause-ok
+returns-clause-ok g c =
+    let all = take_all c.loop-file.file-index c.args.files.now c.loop-file-test.false in
+    Appends-as _ _ (ap (flat_map (file_bytes {A = g.row.A.Denot})) all) c.loop-file.invariant.appended
+
+pub returns-clause-err : goal.returns-clause-err
+returns-clause-err g c = tt

@@ -95,3 +95,26 @@ returns-in_err-at-clause-works g c = IfOk-from_err c.from_residual.result _ c.fr
 
 pub returns-in_err-at-2-clause-works : goal.returns-in_err-at-2-clause-works
 returns-in_err-at-2-clause-works g c = IfOk-from_err c.from_residual-in_err-at-2.result _ c.from_residual-in_err-at-2.ensures.0
+
+pub returns-clause-viable : goal.returns-clause-viable
+returns-clause-viable g c = c.loop-at.invariant.viable
+
+pub returns-clause-works : goal.returns-clause-works
+returns-clause-works g c = c.loop-at.invariant.works
+
+pub returns-in_err-at-clause-viable : goal.returns-in_err-at-clause-viable
+returns-in_err-at-clause-viable g c = c.tell_skipped.ensures.viable
+
+pub returns-in_err-at-2-clause-viable : goal.returns-in_err-at-2-clause-viable
+returns-in_err-at-2-clause-viable g c = c.tell_next.ensures.viable
+
+pub split_at-requires : goal.split_at-requires
+split_at-requires g c = c.loop-at.invariant.within
+
+pub split_at-requires-in-loop-at : goal.split_at-requires-in-loop-at
+split_at-requires-in-loop-at g c =
+    within_after c.args.piece.now c.split_at.result.1.now c.loop-at.at c.in_ok-at.field-0 c.loop-at.invariant.within c.split_at.ensures.back
+    c.in_ok-at.ensures.used.0
+
+pub tell_skipped-requires-clause-viable : goal.tell_skipped-requires-clause-viable
+tell_skipped-requires-clause-viable g c = c.loop-at.invariant.viable

@@ -160,3 +160,6 @@ returns g c =
       others = told.others;
       viable = c.feed_part.ensures.viable;
     }
+
+pub feed_part-requires : goal.feed_part-requires
+feed_part-requires g c = assumption

@@ -7,7 +7,7 @@ use Rattle.fit_decode.proofs.readers.file.turn.Goals as goal
 pub take_some-requires : goal.take_some-requires
 take_some-requires g c =
     let some = needs_some c.args.decoder.now.bytes c.need.result (c.need.ensures.need c.requires.fresh) c.requires.viable in
-    (omega (arith, some, c.min-wanted.ensures), search rules)
+    (omega (arith, some, c.min-wanted.ensures), omega (arith, c.min-wanted.ensures))
 
 pub returns-in_default-clause-turned : goal.returns-in_default-clause-turned
 returns-in_default-clause-turned g c = λ files stands.
@@ -72,3 +72,9 @@ returns-then-got-eq0-clause-counted g c = refl
 
 pub returns-clause-viable : goal.returns-clause-viable
 returns-clause-viable g c = c.take_piece.ensures.viable
+
+pub need-requires : goal.need-requires
+need-requires g c = assumption
+
+pub take_piece-requires : goal.take_piece-requires
+take_piece-requires g c = (assumption, (c.requires.fresh, (c.requires.viable, omega (arith, c.requires.counted, c.split_at.ensures.front_len))))

@@ -101,7 +101,7 @@ loop-at-init g c = record {
 
 pub overflow_add-at : goal.overflow_add-at
 overflow_add-at g c =
-    let short : length c.args.piece.now < 2 ^ 64 = search rules in
+    let short : length c.args.piece.now < 2 ^ 64 = assumption in
     omega (arith, c.in-Ok.ensures.used.0, c.split_at.ensures.back_len, c.loop-at-test.true, short)
 
 pub returns-in-More-clause-viable : goal.returns-in-More-clause-viable
@@ -121,3 +121,12 @@ returns-in-Err-NoMemory-clause-viable g c = c.feed.ensures.viable
 
 pub returns-clause-viable : goal.returns-clause-viable
 returns-clause-viable g c = c.loop-at.invariant.viable
+
+pub feed-requires : goal.feed-requires
+feed-requires g c = assumption
+
+pub is_kept-requires : goal.is_kept-requires
+is_kept-requires g c = assumption
+
+pub split_at-requires : goal.split_at-requires
+split_at-requires g c = c.loop-at.invariant.within
