@@ -1,5 +1,6 @@
 -- Whole files whose bytes are known from elsewhere: each value below is proved to be the file of its bytes.
-use Rattle.fit_record.proofs.Common.{◌≡◌, ℕ, ◌<◌, ◌^◌, Bool, true, false, ◌&&◌, List, [], ◌∷◌, length, refl, None, Some, arith, lit<, ltb-true, and_parts, eqb-false}
+use Rattle.fit_record.proofs.Common.{◌≡◌, ℕ, ◌<◌, ◌^◌, Bool, true, false, ◌&&◌, List, [], ◌∷◌, length, refl, None, Some, arith, lit<, ltb-true}
+use Rattle.fit_record.proofs.Common.{and_parts, eqb-false}
 use Rattle.fit_record.proofs.Common.{Items, checksum, FieldDef, DevDef, FitFile, Record, Define, Environment, empty_environment, learn, AllFit, first_fault}
 use Rattle.fit_record.proofs.Common.{body, IsWellFormed, IsFile}
 use Rattle.std.specs.Prelude.{Option, nat_lt}
@@ -97,7 +98,9 @@ zeros_for_a_sum = file_of (header_of 14 sums.Zero) []
 
 pub zeros_for_a_sum_bytes : IsFile zeros_for_a_sum (0x0E ∷ 0x20 ∷ 0 ∷ 0 ∷ 0 ∷ 0 ∷ 0 ∷ 0 ∷ 0x2E ∷ 0x46 ∷ 0x49 ∷ 0x54 ∷ 0 ∷ 0 ∷ 0xA8 ∷ 0xA3 ∷ [])
 unfolding checksum
-zeros_for_a_sum_bytes = (fits zeros_for_a_sum refl refl (lit< tt) (lit< tt) (lit< tt) (λ z. eqb-false (checksum (fixed_part zeros_for_a_sum.header 0)) 0 refl z.1) refl, refl)
+zeros_for_a_sum_bytes =
+    let sum : ℕ = checksum (fixed_part zeros_for_a_sum.header 0) in
+    (fits zeros_for_a_sum refl refl (lit< tt) (lit< tt) (lit< tt) (λ z. eqb-false sum 0 refl z.1) refl, refl)
 
 -- a header of twelve bytes
 abbrev pub short_header : FitFile (Unit {0})

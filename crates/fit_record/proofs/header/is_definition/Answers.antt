@@ -1,4 +1,4 @@
-use Rattle.fit_record.proofs.Common.{◌≡◌, ◌∙◌, true, false, refl, sym, bit}
+use Rattle.fit_record.proofs.Common.{◌≡◌, ◌∙◌, true, false, sym, ap, not, bit}
 use Rattle.fit_record.proofs.header.is_definition.Goals as goal
 
 pub returns-then-not-is_compressed : goal.returns-then-not-is_compressed
@@ -7,4 +7,4 @@ returns-then-not-is_compressed c =
 
 pub returns-else-not-is_compressed : goal.returns-else-not-is_compressed
 returns-else-not-is_compressed c =
-    let compressed : bit 7 c.args.byte ≡ true = sym c.is_compressed.ensures ∙ c.if-not-is_compressed.false in rw compressed refl
+    let compressed : bit 7 c.args.byte ≡ true = sym c.is_compressed.ensures ∙ c.if-not-is_compressed.false in rw compressed (ap not c.if-not-is_compressed.false)
