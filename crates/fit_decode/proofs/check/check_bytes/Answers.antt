@@ -1,5 +1,5 @@
 -- What was passed over and fed is a front of the bytes, and at the end all of them.
-use Rattle.fit_decode.proofs.Common.{◌≡◌, ◌^◌, ◌<◌, length, length-append, arith, ap, event_of, rules, subst, sym, ◌∙◌, Global, eqb-true, slice_is_bytes}
+use Rattle.fit_decode.proofs.Common.{◌≡◌, ◌^◌, ◌<◌, length, length-append, arith, ap, event_of, subst, sym, ◌∙◌, Global, eqb-true, slice_is_bytes}
 use Rattle.fit_decode.proofs.Common.{AreChain, IsFaultOf, LacksMemoryAt, chain_end, fault_of_chain}
 use Rattle.std.proofs.Common.{IfErr, OnOk}
 use Rattle.std.proofs.lemmas.Result.{IfOk-from_err, err_from_is_err_and}

@@ -1,4 +1,4 @@
-use Rattle.fit_decode.proofs.Common.{◌≡◌, ◌^◌, ◌<◌, ◌++◌, length, take, get_or, None, Some, Ok, refl, ap, sym, subst, ◌∙◌, arith, rules, append-nil}
+use Rattle.fit_decode.proofs.Common.{◌≡◌, ◌^◌, ◌<◌, ◌++◌, length, take, get_or, None, Some, Ok, refl, ap, sym, subst, ◌∙◌, arith, append-nil}
 use Rattle.fit_decode.proofs.Common.{IsHeaderPart, RefusesByte}
 use Rattle.fit_frame.specs.Beginning.{Seen, IsWholeHeader}
 use Rattle.fit_decode.proofs.Pieces.{header_scanned, scanned_more}

@@ -8,13 +8,13 @@ pub returns-in_err-check_file-clause-err : goal.returns-in_err-check_file-clause
 returns-in_err-check_file-clause-err g c =
     let p = err_from_is_err_and c.from_residual.result c.from_residual.ensures.1 in
     rw (p.1, p.2)
-    (file_or c.args.files.now c.loop-place.place c.index-files-place.result _ (omega arith) c.index-files-place.is (omega arith, omega arith)
+    (file_or c.args.files.now c.loop-place.place c.index-files-place.result _ c.loop-place-test.true c.index-files-place.is (omega arith, omega arith)
     c.loop-place.invariant
     c.in_err-check_file.ensures.err)
 
 pub loop-place-preserved : goal.loop-place-preserved
 loop-place-preserved g c =
-    next_good c.args.files.now c.loop-place.place c.index-files-place.result (omega arith) c.index-files-place.is c.loop-place.invariant
+    next_good c.args.files.now c.loop-place.place c.index-files-place.result c.loop-place-test.true c.index-files-place.is c.loop-place.invariant
     c.in_ok-check_file.ensures.ok.0
 
 pub returns-in_err-check_file-clause-ok : goal.returns-in_err-check_file-clause-ok

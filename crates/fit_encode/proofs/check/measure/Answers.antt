@@ -6,15 +6,17 @@ use Rattle.fit_encode.proofs.check.measure.Goals as goal
 pub returns-in-Err-clause-err : goal.returns-in-Err-clause-err
 returns-in-Err-clause-err g c =
     let inv = c.loop-index.invariant in
-    inr (shape_at c.args.number c.args.records.now c.loop-index.index c.index-records-index.result c.loop-index.env c.loop-index.length (omega arith)
-    c.index-records-index.is inv.known inv.fit inv.total inv.small c.in-Err.fault c.shape_fault.result c.in-Err.ensures.err c.shape_fault.ensures)
+    inr (shape_at c.args.number c.args.records.now c.loop-index.index c.index-records-index.result c.loop-index.env c.loop-index.length
+    c.loop-index-test.true c.index-records-index.is inv.known inv.fit inv.total inv.small c.in-Err.fault c.shape_fault.result c.in-Err.ensures.err
+    c.shape_fault.ensures)
 
 pub returns-in_default-clause-err : goal.returns-in_default-clause-err
 returns-in_default-clause-err g c =
     let inv = c.loop-index.invariant in
     let much = c.in_default.ensures in
-    inr (long_at c.args.number c.args.records.now c.loop-index.index c.index-records-index.result c.loop-index.env c.loop-index.length (omega arith)
-    c.index-records-index.is inv.known inv.fit inv.total inv.small c.in-Ok.more c.in-Ok.ensures.ok.0 c.in-Ok.ensures.ok.1 (omega (arith, much)))
+    inr (long_at c.args.number c.args.records.now c.loop-index.index c.index-records-index.result c.loop-index.env c.loop-index.length
+    c.loop-index-test.true c.index-records-index.is inv.known inv.fit inv.total inv.small c.in-Ok.more c.in-Ok.ensures.ok.0
+    c.in-Ok.ensures.ok.1 (omega (arith, much)))
 
 pub loop-index-preserved : goal.loop-index-preserved
 loop-index-preserved g c =
@@ -22,14 +24,15 @@ loop-index-preserved g c =
     let sum = c.in-Some.ensures in
     let learned : c.learn.new.self ≡ learn c.loop-index.env c.index-records-index.result =
     on_ok_at _ c.learn.result (sym c.is_err.ensures.value ∙ c.if-is_err.false) c.learn.ensures.ok in
-    let past = measured_past c.args.number c.args.records.now c.loop-index.index c.index-records-index.result c.loop-index.env c.loop-index.length (omega arith)
-    c.index-records-index.is inv.known inv.fit inv.total inv.small c.in-Ok.more c.in-Ok.ensures.ok.0 c.in-Ok.ensures.ok.1 c.learn.new.self c.in-Some.sum learned
+    let past = measured_past c.args.number c.args.records.now c.loop-index.index c.index-records-index.result c.loop-index.env c.loop-index.length
+    c.loop-index-test.true c.index-records-index.is inv.known inv.fit inv.total inv.small c.in-Ok.more c.in-Ok.ensures.ok.0 c.in-Ok.ensures.ok.1
+    c.learn.new.self c.in-Some.sum learned
     (omega (arith, sum.0, sum.1)) in
     record { known = past.0; small = omega (arith, sum.0, sum.1); fit = past.1; total = past.2 }
 
 pub returns-clause-ok : goal.returns-clause-ok
 returns-clause-ok g c =
-    let all : take c.loop-index.index c.args.records.now ≡ c.args.records.now = take_all c.loop-index.index c.args.records.now (omega arith) in
+    let all : take c.loop-index.index c.args.records.now ≡ c.args.records.now = take_all c.loop-index.index c.args.records.now c.loop-index-test.false in
     let inv = c.loop-index.invariant in
     (subst (AllFit {A = g.row.A.Denot} empty_environment) all inv.fit, inv.total ∙ ap (λ x. length (records_bytes {A = g.row.A.Denot} empty_environment x)) all)
 

@@ -1,4 +1,5 @@
-use Rattle.fit_encode.proofs.Common.{◌≡◌, ℕ, List, [], ◌∷◌, ◌++◌, length, ap, ◌∙◌, append_assoc, length-append, arith, flat_map, items_bytes, sym, subst, AllByRecursion, HasBytes}
+use Rattle.fit_encode.proofs.Common.{◌≡◌, ℕ, List, [], ◌∷◌, ◌++◌, length, ap, ◌∙◌, append_assoc, length-append, arith, flat_map, items_bytes}
+use Rattle.fit_encode.proofs.Common.{sym, subst, AllByRecursion, HasBytes}
 use Rattle.std.proofs.Common.{◌+◌}
 use Rattle.fit_encode.proofs.place.place_values.Goals as goal
 
@@ -40,8 +41,14 @@ pub place_lists-at-requires-clause-room : goal.place_lists-at-requires-clause-ro
 place_lists-at-requires-clause-room g c =
     let part = items_bytes {A = g.row.A.Denot} c.args.order in
     let v = c.args.v.now in
-    omega (arith, c.requires.room, c.place_bytes-at.ensures.size, c.place_bytes-at.ensures.end, ap (λ l. length (flat_map part l)) c.as_slice.ensures,
-    length-append (flat_map part v.fields) (flat_map part v.dev))
+    omega (
+      arith,
+      c.requires.room,
+      c.place_bytes-at.ensures.size,
+      c.place_bytes-at.ensures.end,
+      ap (λ l. length (flat_map part l)) c.as_slice.ensures,
+      length-append (flat_map part v.fields) (flat_map part v.dev),
+    )
 
 pub place_lists-requires-clause-lists : goal.place_lists-requires-clause-lists
 place_lists-requires-clause-lists g c = subst (AllByRecursion HasBytes) (sym c.as_slice-2.ensures) c.requires.dev_fields
@@ -50,9 +57,17 @@ pub place_lists-requires-clause-room : goal.place_lists-requires-clause-room
 place_lists-requires-clause-room g c =
     let part = items_bytes {A = g.row.A.Denot} c.args.order in
     let v = c.args.v.now in
-    omega (arith, c.requires.room, c.place_bytes-at.ensures.size, c.place_bytes-at.ensures.end, c.place_lists-at.ensures.size, c.place_lists-at.ensures.end,
-    ap (λ l. length (flat_map part l)) c.as_slice.ensures, ap (λ l. length (flat_map part l)) c.as_slice-2.ensures,
-    length-append (flat_map part v.fields) (flat_map part v.dev))
+    omega (
+      arith,
+      c.requires.room,
+      c.place_bytes-at.ensures.size,
+      c.place_bytes-at.ensures.end,
+      c.place_lists-at.ensures.size,
+      c.place_lists-at.ensures.end,
+      ap (λ l. length (flat_map part l)) c.as_slice.ensures,
+      ap (λ l. length (flat_map part l)) c.as_slice-2.ensures,
+      length-append (flat_map part v.fields) (flat_map part v.dev),
+    )
 
 pub returns-clause-size : goal.returns-clause-size
 returns-clause-size g c = c.place_lists.ensures.size ∙ c.place_lists-at.ensures.size ∙ c.place_bytes-at.ensures.size

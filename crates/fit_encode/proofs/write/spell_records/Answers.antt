@@ -1,4 +1,4 @@
-use Rattle.fit_encode.proofs.Common.{◌≡◌, ◌∙◌, refl, take, take_all, Little, drop, length, ◌<◌, sym, ap, subst, arith, Environment, empty_environment}
+use Rattle.fit_encode.proofs.Common.{◌≡◌, ◌∙◌, refl, take, take_all, Little, drop, length, ◌<◌, sym, ap, subst, Environment, empty_environment}
 use Rattle.fit_encode.proofs.Common.{learn, learn_all, records_bytes, bytes_in_order}
 use Rattle.std.proofs.Common.{◌+◌}
 use Rattle.fit_record.specs.Records.{message_size}
@@ -23,7 +23,7 @@ size_in-size-requires g c =
     let rs = c.args.records.now in
     let i = c.loop-r.r-index in
     spellable (learn_all {A = g.row.A.Denot} empty_environment (take i rs)) c.r-item.result
-    (fits_at empty_environment rs i c.r-item.result (omega arith) c.r-item.is c.requires)
+    (fits_at empty_environment rs i c.r-item.result c.loop-r-test.true c.r-item.is c.requires)
 
 pub spell_record-requires : goal.spell_record-requires
 spell_record-requires g c =
@@ -31,7 +31,7 @@ spell_record-requires g c =
     let i = c.loop-r.r-index in
     let r = c.r-item.result in
     let e = learn_all {A = g.row.A.Denot} empty_environment (take i rs) in
-    let fits = fits_at empty_environment rs i r (omega arith) c.r-item.is c.requires in
+    let fits = fits_at empty_environment rs i r c.loop-r-test.true c.r-item.is c.requires in
     let same = ap (λ o. bytes_in_order o r) c.order_in.ensures ∙ in_order e c.loop-r.orders r c.loop-r.invariant.orders in
     record {
       spellable = spellable e r fits;
@@ -43,7 +43,7 @@ note_size-requires g c =
     let rs = c.args.records.now in
     let i = c.loop-r.r-index in
     spellable (learn_all {A = g.row.A.Denot} empty_environment (take i rs)) c.r-item.result
-    (fits_at empty_environment rs i c.r-item.result (omega arith) c.r-item.is c.requires)
+    (fits_at empty_environment rs i c.r-item.result c.loop-r-test.true c.r-item.is c.requires)
 
 pub returns-in_err-spell_record : goal.returns-in_err-spell_record
 returns-in_err-spell_record g c =
@@ -53,7 +53,7 @@ returns-in_err-spell_record g c =
     let e = learn_all {A = g.row.A.Denot} empty_environment (take i rs) in
     let same = ap (λ o. bytes_in_order o r) c.order_in.ensures ∙ in_order e c.loop-r.orders r c.loop-r.invariant.orders in
     Sends-err _ _ _ _ _ c.from_residual.result c.from_residual.ensures.1 (
-    Breaks-as (record_parts empty_environment rs i r (omega arith) c.r-item.is)
+    Breaks-as (record_parts empty_environment rs i r c.loop-r-test.true c.r-item.is)
     (Breaks-more (records_bytes (learn e r) (drop (i + 1) rs)) (Breaks-on c.loop-r.invariant.spelled (Breaks-as same c.in_err-spell_record.ensures))))
 
 pub loop-r-preserved : goal.loop-r-preserved
@@ -61,7 +61,7 @@ loop-r-preserved g c =
     let rs = c.args.records.now in
     let i = c.loop-r.r-index in
     let r = c.r-item.result in
-    let less : i < length rs = omega arith in
+    let less : i < length rs = c.loop-r-test.true in
     let inv = c.loop-r.invariant in
     let e = learn_all {A = g.row.A.Denot} empty_environment (take i rs) in
     let fits = fits_at empty_environment rs i r less c.r-item.is c.requires in
@@ -81,5 +81,5 @@ loop-r-preserved g c =
 
 pub returns : goal.returns
 returns g c =
-    let all : take c.loop-r.r-index c.args.records.now ≡ c.args.records.now = take_all c.loop-r.r-index c.args.records.now (omega arith) in
+    let all : take c.loop-r.r-index c.args.records.now ≡ c.args.records.now = take_all c.loop-r.r-index c.args.records.now c.loop-r-test.false in
     Spells-as (ap (records_bytes {A = g.row.A.Denot} empty_environment) all) c.loop-r.invariant.spelled

@@ -60,3 +60,18 @@ pub returns-in-Err-clause-read : goal.returns-in-Err-clause-read
 returns-in-Err-clause-read g c = λ files come.
     file_stopped files _ _ _ _ _ _ _ _ c.reading.decoder c.turn.new.decoder c.turn.new.head c.turn.new.records c.reading.invariant.eaten c.in-Err.fault
     (c.in-Err.ensures.turned files (c.reading.invariant.stands files come))
+
+pub turn-requires : goal.turn-requires
+turn-requires g c = (assumption, (c.reading.invariant.fresh, (c.reading.invariant.viable, c.reading.invariant.counted)))
+
+pub returns-in-Err-clause-counted : goal.returns-in-Err-clause-counted
+returns-in-Err-clause-counted g c = omega (arith, c.in-Err.ensures.counted, c.reading.invariant.tally)
+
+pub returns-in-Err-clause-viable : goal.returns-in-Err-clause-viable
+returns-in-Err-clause-viable g c = c.in-Err.ensures.viable
+
+pub returns-in-Some-clause-counted : goal.returns-in-Some-clause-counted
+returns-in-Some-clause-counted g c = omega (arith, c.in-Ok-true.ensures.counted, c.reading.invariant.tally)
+
+pub returns-in-Some-clause-viable : goal.returns-in-Some-clause-viable
+returns-in-Some-clause-viable g c = c.in-Ok-true.ensures.viable

@@ -1,5 +1,5 @@
 -- A turn takes at most the bytes that are missing, so a file's end is the end of a piece.
-use Rattle.fit_decode.proofs.Common.{rules, ◌≡◌, ◌≤◌, length, [], refl, sym, ap, arith, length-append, append-nil, short_bytes, needs_some, needs_no_sooner}
+use Rattle.fit_decode.proofs.Common.{◌≡◌, ◌≤◌, length, [], refl, sym, ap, arith, length-append, append-nil, short_bytes, needs_some, needs_no_sooner}
 use Rattle.fit_decode.proofs.Consumed.{Consumes-keeps}
 use Rattle.fit_decode.proofs.PieceTaken.{turn_of, turn_ends, turn_fails}
 use Rattle.fit_decode.proofs.readers.file.turn.Goals as goal

@@ -1,5 +1,5 @@
 -- A piece is fed event by event.
-use Rattle.fit_decode.proofs.Common.{◌^◌, ◌<◌, length, drop, Some, Err, sym, ap, ◌∙◌, subst, arith, rules, length-drop, append-nil, event_of, unrefused}
+use Rattle.fit_decode.proofs.Common.{◌^◌, ◌<◌, length, drop, Some, Err, sym, ap, ◌∙◌, subst, arith, length-drop, append-nil, event_of, unrefused}
 use Rattle.fit_decode.proofs.Common.{ComesToRecords}
 use Rattle.fit_decode.specs.Answers.{Seen}
 use Rattle.fit_decode.proofs.PieceTold.{fed_on, feeds_header, feeds_item, piece_over, piece_more, piece_end, piece_refused, piece_wants, piece_not_kept}
@@ -8,7 +8,8 @@ use Rattle.fit_decode.proofs.readers.piece.take_piece.Goals as goal
 pub returns-in-More-clause-fed : goal.returns-in-More-clause-fed
 returns-in-More-clause-fed g c = λ files stands.
     let said = c.in-Ok.ensures.more (ap event_of c.in-More.is) in
-    piece_more files _ _ c.args.decoder.now c.loop-at.decoder c.feed.new.self c.args.piece.now c.loop-at.at (omega arith) c.loop-at.invariant.is_fed
+    piece_more files _ _ c.args.decoder.now c.loop-at.decoder c.feed.new.self c.args.piece.now c.loop-at.at c.loop-at.invariant.within
+    c.loop-at.invariant.is_fed
     (c.loop-at.invariant.stands files stands) c.in-Ok.fed.used (rw c.split_at.ensures.back at c.in-Ok.ensures.used.1) (rw c.split_at.ensures.back at said.0)
     (rw c.split_at.ensures.back at said.1)
 
@@ -54,7 +55,7 @@ loop-at-preserved g c =
 pub returns-in-FileEnd-clause-fed : goal.returns-in-FileEnd-clause-fed
 returns-in-FileEnd-clause-fed g c = λ files stands.
     let least = (c.in-Ok.ensures.event _ (ap event_of c.in-FileEnd.is)).1 in
-    piece_end files _ _ c.args.decoder.now c.loop-at.decoder c.feed.new.self c.args.piece.now c.loop-at.at (omega arith) c.loop-at.invariant.is_fed
+    piece_end files _ _ c.args.decoder.now c.loop-at.decoder c.feed.new.self c.args.piece.now c.loop-at.at c.loop-at.invariant.within c.loop-at.invariant.is_fed
     (c.loop-at.invariant.stands files stands) c.in-Ok.fed.used (rw c.split_at.ensures.back at c.in-Ok.ensures.used.1)
     (rw c.split_at.ensures.back at c.in-Ok.ensures.used.0) (rw c.split_at.ensures.back at least)
 
@@ -62,13 +63,15 @@ pub returns-in-Err-Refused-clause-fed : goal.returns-in-Err-Refused-clause-fed
 returns-in-Err-Refused-clause-fed g c = λ files stands.
     let refuses = c.feed.ensures.refused c.in-Err-Refused.place c.in-Err-Refused.reason (ap (λ (v : Seen). v.refusal) c.loop-at.invariant.is_fed)
     (c.in-Err-Refused.is ∙ ap Err c.in-Err-Refused.field-0-is) in
-    piece_refused files _ _ c.args.decoder.now c.loop-at.decoder c.feed.new.self c.args.piece.now c.loop-at.at (omega arith) c.loop-at.invariant.is_fed
+    piece_refused files _ _ c.args.decoder.now c.loop-at.decoder c.feed.new.self c.args.piece.now c.loop-at.at c.loop-at.invariant.within
+    c.loop-at.invariant.is_fed
     (c.loop-at.invariant.stands files stands) c.in-Err-Refused.place c.in-Err-Refused.reason (rw c.split_at.ensures.back at refuses)
 
 pub returns-then-not-is_kept-clause-fed : goal.returns-then-not-is_kept-clause-fed
 returns-then-not-is_kept-clause-fed g c = λ files stands.
     let (some, least) = c.in-Ok.ensures.event _ (ap event_of c.in-Item.is) in
-    piece_not_kept files _ _ c.args.decoder.now c.loop-at.decoder c.feed.new.self c.args.piece.now c.loop-at.at (omega arith) c.loop-at.invariant.is_fed
+    piece_not_kept files _ _ c.args.decoder.now c.loop-at.decoder c.feed.new.self c.args.piece.now c.loop-at.at c.loop-at.invariant.within
+    c.loop-at.invariant.is_fed
     (c.loop-at.invariant.stands files stands) c.args.taken c.in-Ok.fed.used c.in-Item.record c.requires.counted
     (rw c.split_at.ensures.back at c.in-Ok.ensures.used.1) (rw c.split_at.ensures.back at c.in-Ok.ensures.used.0) some
     (rw c.split_at.ensures.back at least) c.in-Ok.ensures.viable
@@ -77,12 +80,14 @@ pub returns-in-Err-NoMemory-clause-fed : goal.returns-in-Err-NoMemory-clause-fed
 returns-in-Err-NoMemory-clause-fed g c = λ files stands.
     let used = c.in-Err-NoMemory.field-0-0 in
     let wants = c.feed.ensures.memory used (c.in-Err-NoMemory.is ∙ ap Err c.in-Err-NoMemory.field-0-is) in
-    piece_wants files _ _ c.args.decoder.now c.loop-at.decoder c.feed.new.self c.args.piece.now c.loop-at.at (omega arith) c.loop-at.invariant.is_fed
+    piece_wants files _ _ c.args.decoder.now c.loop-at.decoder c.feed.new.self c.args.piece.now c.loop-at.at c.loop-at.invariant.within
+    c.loop-at.invariant.is_fed
     (c.loop-at.invariant.stands files stands) c.args.taken used c.requires.counted (rw c.split_at.ensures.back at wants)
 
 pub returns-clause-fed : goal.returns-clause-fed
 returns-clause-fed g c = λ files stands.
-    piece_over files _ _ c.args.decoder.now c.loop-at.decoder c.args.piece.now c.loop-at.at c.loop-at.invariant.is_fed (omega arith)
+    piece_over files _ _ c.args.decoder.now c.loop-at.decoder c.args.piece.now c.loop-at.at c.loop-at.invariant.is_fed
+    (omega (arith, c.loop-at.invariant.within, c.loop-at-test.false))
     (c.loop-at.invariant.stands files stands)
 
 pub unreachable-requires : goal.unreachable-requires

@@ -1,5 +1,6 @@
 -- Until a fault a reading is after some files, and takes the next one.
 use Rattle.fit_decode.proofs.Common.{[], ◌∷◌, ◌++◌, length, Ok, Err, refl, sym, ap, ◌∙◌, subst, layout, chain_limit, IsViable, IsEnd, Channel}
+use Rattle.std.proofs.lemmas.Option.{none-some}
 use Rattle.fit_decode.specs.contracts.readers.reading.Reading.{the_row}
 use Rattle.fit_decode.specs.contracts.readers.reading.Reading.next.{S-row, A-row}
 use Rattle.fit_decode.specs.Answers.{Seen}
@@ -114,3 +115,18 @@ returns-else-is_end-clause-file g c =
     fault_given f _ x source c.in-Err.fault
     (next_given files _ _ _ _ _ _ _ c.read_file.new.decoder c.read_file.new.count beyond c.in-Err.ensures.counted c.in-Err.ensures.viable f b x (fs ++ f ∷ [])
     (Err c.in-Err.fault) input are file chain r))
+
+pub returns-in-Some-clause-exact : goal.returns-in-Some-clause-exact
+returns-in-Some-clause-exact g c = rw (← c.self.view_is) (λ none. absurd (none-some _ (sym none ∙ c.in-Some.is)))
+
+pub returns-in-Some-clause-file : goal.returns-in-Some-clause-file
+returns-in-Some-clause-file g c = rw (← c.self.view_is) (λ none fs f b x input are file chain. absurd (none-some _ (sym none ∙ c.in-Some.is)))
+
+pub returns-in-Ok-clause-latched : goal.returns-in-Ok-clause-latched
+returns-in-Ok-clause-latched g c = rw (← c.self.view_is) (λ fault is. absurd (none-some fault (sym c.in_default.is ∙ is)))
+
+pub returns-then-is_end-clause-latched : goal.returns-then-is_end-clause-latched
+returns-then-is_end-clause-latched g c = rw (← c.self.view_is) (λ fault is. absurd (none-some fault (sym c.in_default.is ∙ is)))
+
+pub returns-else-is_end-clause-latched : goal.returns-else-is_end-clause-latched
+returns-else-is_end-clause-latched g c = rw (← c.self.view_is) (λ fault is. absurd (none-some fault (sym c.in_default.is ∙ is)))
