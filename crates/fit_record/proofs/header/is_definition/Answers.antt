@@ -7,4 +7,5 @@ returns-then-not-is_compressed c =
 
 pub returns-else-not-is_compressed : goal.returns-else-not-is_compressed
 returns-else-not-is_compressed c =
-    let compressed : bit 7 c.args.byte ≡ true = sym c.is_compressed.ensures ∙ c.if-not-is_compressed.false in rw compressed (ap not c.if-not-is_compressed.false)
+    let compressed : bit 7 c.args.byte ≡ true = sym c.is_compressed.ensures ∙ c.if-not-is_compressed.false in
+    rw compressed (ap not c.if-not-is_compressed.false)
