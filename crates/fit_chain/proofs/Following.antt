@@ -7,6 +7,11 @@ use Rattle.fit_chain.proofs.Common.{IsPartial, IsUnfinished, HasCome, split}
 use Rattle.fit_chain.proofs.Completions.{regroup}
 use Rattle.fit_chain.proofs.OnePlace.{no_header, no_record}
 
+-- There are bytes.
+abbrev IsSome : List ℕ → Type 0
+IsSome [] = ⊥
+IsSome (b ∷ bytes) = Unit {0}
+
 -- ---- whole files
 
 -- the files of a chain after the first ones
@@ -19,15 +24,14 @@ pub record Follow {A : Type 0} (fs gs : List (FitFile A)) (y : List ℕ) : Type 
 follow : {A : Type 0} (fs gs : List (FitFile A)) (y : List ℕ) → AllByRecursion IsWellFormed fs → AllByRecursion IsWellFormed gs
     → chain_bytes fs ++ y ≡ chain_bytes gs → Follow fs gs y
 follow [] gs y p q e = record { others = gs; each = q; joined = refl; spelled = e }
-follow (f ∷ fs) [] y p q e = absurd cc
+follow (f ∷ fs) [] y p q e = absurd (subst IsSome e tt)
 follow (f ∷ fs) (d ∷ gs) y p q e =
     let parts : file_bytes f ++ (chain_bytes fs ++ y) ≡ file_bytes d ++ chain_bytes gs = sym (append_assoc (file_bytes f) (chain_bytes fs) y) ∙ e in
     let first = same_file f d _ _ p.0 q.0 parts in
     let tail = append_cancel_left (file_bytes f) (chain_bytes fs ++ y) (chain_bytes gs)
     (subst (λ t. file_bytes f ++ (chain_bytes fs ++ y) ≡ file_bytes t ++ chain_bytes gs) (sym first) parts) in
     let rest = follow fs gs y p.1 q.1 tail in
-    let joined = rest.joined in
-    record { others = rest.others; each = rest.each; joined = cc (first, joined); spelled = rest.spelled }
+    record { others = rest.others; each = rest.each; joined = λ i. sym first i ∷ rest.joined i; spelled = rest.spelled }
 
 -- ---- whole records
 
@@ -56,12 +60,11 @@ remain e (r ∷ rs) (s ∷ ss) y tail p q l h =
     (subst (λ t. length (records_bytes (learn e r) rs) ≤ length (records_bytes (learn e t) ss)) (sym same) less)
     (subst (λ t. records_bytes (learn e r) rs ++ y ≡ records_bytes (learn e t) ss ++ tail) (sym same) first.1) in
     let as_many : length (records_bytes (learn e r) ss) ≡ length (records_bytes (learn e s) ss) = ap (λ t. length (records_bytes (learn e t) ss)) same in
-    let joined = rest.joined in
     record {
       others = rest.others;
       fit = rest.fit;
       total = omega (arith, both, and_both, as_long, as_many, rest.total);
-      joined = cc (same, joined);
+      joined = λ i. sym same i ∷ rest.joined i;
       spelled = rest.spelled;
     }
 
@@ -146,7 +149,7 @@ pub record DataFollows {A : Type 0} (h : Header) (n : ℕ) (records : List (Reco
 pub data_follows : {A : Type 0} (h : Header) (n : ℕ) (records : List (Record A)) (part x : List ℕ) (others : List (FitFile A))
     → IsUnfinished (at_data h n records part) → AllByRecursion IsWellFormed others → progress_bytes (at_data h n records part) ++ x ≡ chain_bytes others
     → DataFollows h n records part x others
-data_follows h n records part x [] u p e = absurd cc
+data_follows h n records part x [] u p e = absurd (subst IsSome e tt)
 data_follows h n records part x (f ∷ after) u p e =
     let tail : List ℕ = little_bytes 2 (checksum (summed f)) ++ chain_bytes after in
     let parts : header_bytes h n ++ (records_bytes empty_environment records ++ (part ++ x)) ≡ header_bytes f.header (length (body f)) ++ (body f ++ tail) =

@@ -5,6 +5,7 @@ use Rattle.fit_chain.proofs.Common.{IsBytes-back, checksum, Header, header_bytes
 use Rattle.fit_chain.proofs.Common.{learn, learn_all, record_bytes, records_bytes, body, summed, chain_bytes, IsWellFormed, IsChain, IsViable, short_header}
 use Rattle.fit_chain.proofs.Common.{short_header_bytes, Progress, at_header, at_data, IsPartial, IsUnfinished, HasCome, FillFrom, DataGoesOn, GoesOn}
 use Rattle.fit_chain.proofs.Common.{files_begun, ChainGoesOn, split}
+use Rattle.std.proofs.lemmas.Bool.{true≢false}
 use Rattle.fit_record.specs.Rooms.{can_fill}
 use Rattle.fit_record.proofs.FilledRooms.{can_fill_is}
 use Rattle.fit_chain.proofs.OnePlace.{no_header, no_record}
@@ -21,7 +22,7 @@ with_bytes (at_data h n records part) y = at_data h n records (part ++ y)
 filled_size : (n : ℕ) → can_fill {A = Unit {0}} empty_environment n ≡ true → IsDataSize n
 filled_size zero h = inl refl
 filled_size (suc (suc (suc (suc (suc (suc n)))))) h = inr (omega arith)
-filled_size n h = absurd cc
+filled_size n h = absurd (true≢false (sym h))
 
 same_filled : (A : Type 0) (n : ℕ) → can_fill {A = A} empty_environment n ≡ can_fill {A = Unit {0}} empty_environment n
 same_filled A (suc (suc (suc (suc (suc (suc n)))))) = refl
@@ -49,7 +50,7 @@ longer limit fs gs others after f joined are within = omega (arith, within, ap l
 
 no_longer : (a b : List ℕ) → a ++ b ≡ [] → (a ≡ []) × (b ≡ [])
 no_longer [] b e = (refl, e)
-no_longer (x ∷ a) b e = absurd cc
+no_longer (x ∷ a) b e = absurd (cc e)
 
 begins : {A : Type 0} (front x y z : List ℕ) (others : List (FitFile A)) → IsUnfinished {A = A} (at_header front) → IsBytes x → x ≡ y ++ z → length y ≤ 1
     → HeaderFollows front x others → BeginsHeader (front ++ y)
