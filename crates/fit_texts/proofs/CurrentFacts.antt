@@ -7,7 +7,7 @@ use Rattle.std.proofs.lemmas.Option.{same_Some}
 use Rattle.fit_texts.specs.declared.kept.ByLocal.{ByLocal}
 
 -- what is set at one place stands there alone
-elsewhere : {A : Type 0} (xs : List A) (i k : ℕ) (x : A) → (k ≡ i → ⊥) → slice_get (set xs i x) k ≡ slice_get xs k
+pub elsewhere : {A : Type 0} (xs : List A) (i k : ℕ) (x : A) → (k ≡ i → ⊥) → slice_get (set xs i x) k ≡ slice_get xs k
 elsewhere [] i k x other = refl
 elsewhere (y ∷ xs) zero zero x other = absurd (other refl)
 elsewhere (y ∷ xs) zero (suc k) x other = refl
