@@ -1,7 +1,7 @@
 -- Cells that are shown as they are, as that of a lone number.
-use Rattle.fit_frames.proofs.Common.{◌≡◌, ◌∙◌, ◌++◌, ◌∷◌, [], length, refl, sym, ap, subst, arith, nat_tests}
+use Rattle.fit_frames.proofs.Common.{◌≡◌, ◌∙◌, ◌++◌, ◌∷◌, [], ◌%◌, length, refl, sym, ap, ap₂, subst, inl, inr, arith, nat_tests, eq-eqb, ne_eqb}
 use Rattle.fit_frames.proofs.Common.{AllByRecursion, Bool, true, false, ◌&&◌, not, list_all, Global, Items, IsFormOf, Meaning, Order}
-use Rattle.fit_frames.proofs.Common.{and_sheet, base_type, cell, default_writer, field_text, item_text, lone_cell, shown_cell}
+use Rattle.fit_frames.proofs.Common.{and_sheet, base_type, cell, default_writer, field_text, item_text, item_width, lone_cell, shown_cell}
 use Rattle.std.proofs.Common.{◌<◌, ◌==◌, ◌⊎◌, ℕ, List, None, Option, Result, if◌then◌else◌}
 use Rattle.std.specs.Prelude.{IfOk}
 use Rattle.std.proofs.lemmas.Result.{IfOk-weaker}
@@ -34,6 +34,27 @@ pub printable_shown : {A : Type 0} (code : ℕ) (info : Option Meaning) (items :
     → shown_cell code info items ≡ cell code info items
 printable_shown code info items shown =
     as-it-is (items.width == 1) (list_all is_printable (cell code info items)) (cell 0x0D None items) (cell code info items) shown
+
+-- of items that are no bytes
+pub wide_shown : {A : Type 0} (code : ℕ) (info : Option Meaning) (items : Items A) → (items.width ≡ 1 → ⊥)
+    → shown_cell code info items ≡ cell code info items
+wide_shown code info items wide =
+    let own = cell code info items in
+    ap (λ narrow. if narrow && not (list_all is_printable own) then cell 0x0D None items else own) (ne_eqb items.width 1 wide)
+
+-- a cell with a control character
+pub hidden_shown : {A : Type 0} (code : ℕ) (info : Option Meaning) (items : Items A) → items.width ≡ 1
+    → list_all is_printable (cell code info items) ≡ false → shown_cell code info items ≡ cell 0x0D None items
+hidden_shown code info items narrow hidden =
+    ap₂ (λ n shown. if n && not shown then cell 0x0D None items else cell code info items) (eq-eqb items.width 1 narrow) hidden
+
+wide_or_one : (w n : ℕ) (whole : Bool) → n ≡ (if whole then w else 1) → (n ≡ w) ⊎ (n ≡ 1)
+wide_or_one w n true is = inl is
+wide_or_one w n false is = inr is
+
+-- items are as wide as their base type, or bytes
+pub shape_width : (code size n : ℕ) → n ≡ item_width code size → (n ≡ (base_type code).width) ⊎ (n ≡ 1)
+shape_width code size n is = wide_or_one (base_type code).width n (size % (base_type code).width == 0) is
 
 -- a row and a line show these items as this text
 abbrev pub BothShow : {A : Type 0} → ℕ → Option Meaning → Items A → List ℕ → Type 0
