@@ -1,4 +1,5 @@
 use Rattle.fit_rows.proofs.Common.{◌∙◌, ◌++◌, ◌∷◌, [], map, get_or, sym, ap, ap₂, take, FieldDef, FrameKey, end_of, field_key, frame_text, frames_of}
+use Rattle.std.proofs.lemmas.List.{take_all}
 use Rattle.fit_rows.proofs.FramedRows.{end_more, frames_more, keys_more}
 use Rattle.fit_rows.proofs.template.field_frames.Goals as goal
 
@@ -17,3 +18,13 @@ loop-field-preserved c =
           ∙ sym (frames_more [] keys key) ∙ ap (frames_of []) (sym more),
       c.in_ok-push_field.ensures.end ∙ sym (end_more [] keys key) ∙ ap (end_of []) (sym more),
     )
+
+pub returns-clause-frames : goal.returns-clause-frames
+returns-clause-frames c =
+    c.loop-field.invariant.0
+    ∙ ap (λ fs. frames_of [] (map (field_key c.args.global) fs)) (take_all c.loop-field.field-index c.args.fields.now c.loop-field-test.false)
+
+pub returns-clause-end : goal.returns-clause-end
+returns-clause-end c =
+    c.loop-field.invariant.1
+    ∙ ap (λ fs. end_of [] (map (field_key c.args.global) fs)) (take_all c.loop-field.field-index c.args.fields.now c.loop-field-test.false)
