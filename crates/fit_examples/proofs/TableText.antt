@@ -1,7 +1,9 @@
 -- Why there is no table.
-use Rattle.fit_examples.proofs.Common.{◌≡◌, ◌∙◌, ℕ, ◌<◌, ◌++◌, true, false, Some, List, Err, arith, take, get_or, length, sym, ap, subst, Global, append-nil}
-use Rattle.fit_examples.proofs.Common.{get_or_append_left, take-append-le, chain_limit, IsFaultOf}
-use Rattle.std.proofs.Common.{length-append}
+use Rattle.fit_examples.proofs.Common.{◌≡◌, ◌∙◌, ℕ, ◌<◌, ◌++◌, true, false, Some, None, List, Ok, Err, arith, take, get_or, length, sym, ap, subst, Global}
+use Rattle.fit_examples.proofs.Common.{append-nil, get_or_append_left, take-append-le, chain_limit, IsFaultOf}
+use Rattle.std.proofs.Common.{length-append, Option, []}
+use Rattle.std.specs.Io.KnownBytes.{Appends}
+use Rattle.fit_chain.specs.Checks.{AreChain}
 use Rattle.fit_frame.specs.declared.reason.Reason.{Reason}
 use Rattle.fit_chain.specs.Refusals.{IsRefused}
 use Rattle.fit_report.specs.Reports.{Channel}
@@ -18,6 +20,20 @@ wants_memory rows source sink (csv.Decode (faults.Read place)) good failed = let
 wants_memory rows source sink csv.NoMemory good some = tt
 wants_memory rows source sink (csv.Write written) good some = tt
 wants_memory rows source sink fault good none = absurd none
+
+-- what was taken to the end is all there is
+pub whole_chain : (rows : RowsOf) (ride left : List ℕ) (sink : Channel) (done : Unit {0})
+    → Converts rows (record { before = Some ride; after = Some left; failed = false }) sink (Ok done) → AreChain Global ride
+whole_chain rows ride left sink done (taken, all, (ends, good, chain, text)) =
+    subst (AreChain Global) (sym (all ∙ ap (λ l. taken ++ l) ends ∙ append-nil taken)) chain
+
+-- a sink that had nothing has the text
+pub only_text : (before after : Option (List ℕ)) (own text bytes : List ℕ) → before ≡ Some own → own ≡ [] → Some bytes ≡ after → Appends before after text
+    → bytes ≡ text
+only_text None after own text bytes is none has put = absurd cc
+only_text (Some old) None own text bytes is none has put = absurd put
+only_text (Some old) (Some new) own text bytes is none has put =
+    let empty : old ≡ [] = cc in let same : bytes ≡ new = cc in same ∙ put ∙ ap (λ l. l ++ text) empty
 
 -- ---- faults of bytes
 
