@@ -72,3 +72,7 @@ used_only old all digits used e = ap (take (length old + used)) e ∙ take-appen
 -- what was written after a text and after it other bytes, of which these were cut off
 pub cut : (old more all : List ℕ) → all ≡ old ++ more → take (length old) all ≡ old
 cut old more all e = ap (take (length old)) e ∙ take-append_seam old more
+
+-- what was put after a text, and more after that
+pub then_put : (old mid new first more : List ℕ) → mid ≡ old ++ first → new ≡ mid ++ more → new ≡ old ++ (first ++ more)
+then_put old mid new first more put then = then ∙ ap (λ text. text ++ more) put ∙ append_assoc old first more
