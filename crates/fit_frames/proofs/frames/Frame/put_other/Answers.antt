@@ -1,5 +1,4 @@
 use Rattle.fit_frames.proofs.Common.{◌≡◌, ◌∙◌, ◌++◌, sym, ap, subst, cell, default_writer, field_text, item_width, FrameText}
-use Rattle.std.proofs.Common.{List, ℕ}
 use Rattle.std.proofs.lemmas.Result.{on_ok_weaker}
 use Rattle.fit_frames.proofs.ShownCells.{shape_width}
 use Rattle.fit_frames.specs.inner.FieldForms.{field_meaning}
