@@ -1,7 +1,9 @@
-use Rattle.fit_frames.proofs.Common.{◌∙◌, ◌++◌, sym, ap, ap₂, FrameText}
+use Rattle.fit_frames.proofs.Common.{◌∙◌, ◌++◌, sym, ap, ap₂, and_sheet, FrameText}
+use Rattle.std.proofs.lemmas.Result.{IfOk-weaker}
 use Rattle.fit_base.proofs.ByteLists.{slice_is_bytes}
 use Rattle.fit_frames.proofs.ShownCells.{lone_read}
 use Rattle.fit_frames.specs.inner.FieldForms.{field_meaning}
+use Rattle.fit_frames.specs.Frames.{field_in_row}
 use Rattle.fit_texts.proofs.ItemFacts.{lone_below}
 use Rattle.fit_texts.proofs.Sheets.{more_written}
 use Rattle.fit_frames.proofs.frames.Frame.put_bytes.Goals as goal
@@ -22,3 +24,9 @@ returns-in-Some-clause-text c =
     rw (sym c.self.view_is)
     (more_written _ _ _ _ c.in_ok-at.at c.write_formed.result (c.write_formed.ensures.text f.code.0 (field_meaning f) form.form)
     ∙ ap₂ (λ a b. a ++ b) c.in_ok-at.ensures.text (sym both.0))
+
+pub returns-clause-text : goal.returns-clause-text
+returns-clause-text c =
+    let old = and_sheet c.args.text.now.items c.args.sheet.now c.args.at in
+    let first = c.in_ok-at.ensures.text ∙ ap (λ (k : FrameText). old ++ k.between) c.self.view_is in
+    IfOk-weaker c.add_read.result _ _ (λ e put. put ∙ ap (λ t. t ++ field_in_row c.args.self.now c.args.order c.args.bytes.now) first) c.add_read.ensures.text
