@@ -6,6 +6,8 @@ use Rattle.std.proofs.lemmas.Nat.{pow-add}
 use Rattle.std.proofs.Common.{length, take}
 use Rattle.std.proofs.Math.Seq.{take-take, take-append-add}
 use Rattle.std.proofs.lemmas.List.{length-take-le}
+use Rattle.std.specs.Prelude.{ℤ, unsigned_abs}
+use Rattle.fit_numbers.specs.FixedText.{fixed_text, fraction, sign}
 use Rattle.fit_numbers.proofs.DigitFacts.{last_digits-mod}
 use Rattle.fit_numbers.proofs.PutFacts.{two_digits}
 
@@ -100,3 +102,14 @@ whole_alone n = let one : n / 1 ≡ n = omega arith in append-nil (decimal (n / 
 
 pub both_parts : (text a b : List ℕ) → (text ++ a) ++ b ≡ text ++ (a ++ b)
 both_parts = append_assoc
+
+-- a sign and a size, each written after what was there
+pub signed_text : (before between after : List ℕ) (v : ℤ) (size decimals unit : ℕ) → between ≡ before ++ sign v
+    → after ≡ between ++ decimal (size / unit) ++ fraction decimals (size % unit) → size ≡ unsigned_abs v → unit ≡ 10 ^ decimals
+    → after ≡ before ++ fixed_text v decimals
+signed_text before between after v size decimals unit front text is power =
+    let whole = decimal (size / unit) in
+    let part = fraction decimals (size % unit) in
+    text ∙ ap (λ t. (t ++ whole) ++ part) front ∙ ap (λ t. t ++ part) (append_assoc before (sign v) whole)
+    ∙ append_assoc before (sign v ++ whole) part
+    ∙ ap₂ (λ n u. before ++ ((sign v ++ decimal (n / u)) ++ fraction decimals (n % u))) is power
