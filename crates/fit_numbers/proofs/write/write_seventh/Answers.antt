@@ -9,15 +9,19 @@ use Rattle.fit_numbers.proofs.write.write_seventh.Goals as goal
 pub returns-then-size-lt4294967296-clause-text : goal.returns-then-size-lt4294967296-clause-text
 returns-then-size-lt4294967296-clause-text c =
     let before = take c.args.at c.args.bytes.now in
+    let begun = take c.write_sign-at.result c.write_sign-at.new.bytes in
     let same = to_z-of_z w64 c.args.value c.ranges.value in
-    signed_text before (take c.write_sign-at.result c.write_sign-at.new.bytes) (take c.write_ten_millionths.result c.write_ten_millionths.new.bytes) c.args.value
-    c.unsigned_abs-size.result 7 10_000_000 (c.write_sign-at.ensures.text ∙ ap (λ v. before ++ sign v) same) c.write_ten_millionths.ensures.text
-    (c.unsigned_abs-size.ensures.value ∙ ap unsigned_abs same) refl
+    let front = c.write_sign-at.ensures.text ∙ ap (λ v. before ++ sign v) same in
+    let size = c.unsigned_abs-size.ensures.value ∙ ap unsigned_abs same in
+    signed_text before begun (take c.write_ten_millionths.result c.write_ten_millionths.new.bytes) c.args.value
+    c.unsigned_abs-size.result 7 10_000_000 front c.write_ten_millionths.ensures.text size refl
 
 pub returns-else-size-lt4294967296-clause-text : goal.returns-else-size-lt4294967296-clause-text
 returns-else-size-lt4294967296-clause-text c =
     let before = take c.args.at c.args.bytes.now in
+    let begun = take c.write_sign-at.result c.write_sign-at.new.bytes in
     let same = to_z-of_z w64 c.args.value c.ranges.value in
-    signed_text before (take c.write_sign-at.result c.write_sign-at.new.bytes) (take c.write_size.result c.write_size.new.bytes) c.args.value
-    c.unsigned_abs-size.result 7 (10 ^ 7) (c.write_sign-at.ensures.text ∙ ap (λ v. before ++ sign v) same) c.write_size.ensures.text
-    (c.unsigned_abs-size.ensures.value ∙ ap unsigned_abs same) refl
+    let front = c.write_sign-at.ensures.text ∙ ap (λ v. before ++ sign v) same in
+    let size = c.unsigned_abs-size.ensures.value ∙ ap unsigned_abs same in
+    signed_text before begun (take c.write_size.result c.write_size.new.bytes) c.args.value
+    c.unsigned_abs-size.result 7 (10 ^ 7) front c.write_size.ensures.text size refl
