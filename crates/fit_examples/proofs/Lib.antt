@@ -4,3 +4,4 @@ pub mod TableText
 pub mod Holding
 pub mod RideFaults
 pub mod Noted
+pub mod Shrinking

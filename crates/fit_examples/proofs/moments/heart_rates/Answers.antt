@@ -3,16 +3,17 @@ use Rattle.fit_examples.proofs.Common.{rules, ◌^◌, ◌<◌, [], length, subs
 use Rattle.fit_examples.proofs.Common.{IsFaultOf, Seen, Feeds, bad_end, feeds_on, good_end, stopped, stops, taken_before, chain_end, fault_of_chain}
 use Rattle.std.proofs.Common.{OnOk}
 use Rattle.fit_examples.proofs.Noted.{Noted, heard_on, noted_all, noted_on, nothing_noted}
+use Rattle.fit_examples.proofs.Common.{List, ℕ, event_of}
+use Rattle.fit_examples.proofs.Shrinking.{feeds_first, less_left}
 use Rattle.fit_examples.proofs.moments.heart_rates.Goals as goal
 
 pub loop-rest-init : goal.loop-rest-init
-loop-rest-init c =
-    let feeds : Feeds c.args.ride.now c.new-decoder.result c.args.ride.now = search rules in (
-      feeds,
-      subst (λ s. Noted c.new-decoder.result.bytes s c.new-moments.result.items) (sym c.new-stream.ensures)
-          (subst (λ (s : Seen). Noted s.bytes [] c.new-moments.result.items) (sym c.new-decoder.ensures)
-          (subst (Noted [] []) (sym c.new-moments.ensures.items) nothing_noted)),
-    )
+loop-rest-init c = (
+  feeds_first c.args.ride.now c.new-decoder.result c.new-decoder.ensures,
+  subst (λ s. Noted c.new-decoder.result.bytes s c.new-moments.result.items) (sym c.new-stream.ensures)
+      (subst (λ (s : Seen). Noted s.bytes [] c.new-moments.result.items) (sym c.new-decoder.ensures)
+      (subst (Noted [] []) (sym c.new-moments.ensures.items) nothing_noted)),
+)
 
 pub note-requires : goal.note-requires
 note-requires c =
@@ -82,3 +83,9 @@ pub returns-clause-moments : goal.returns-clause-moments
 returns-clause-moments c =
     noted_all c.events_are_one.ensures c.args.ride.now c.loop-rest.decoder c.loop-rest.rest.now c.loop-rest.stream c.loop-rest.moments.items
     c.loop-rest.invariant.0 (eqb-true (length c.loop-rest.rest.now) 0 (sym c.is_empty.ensures ∙ c.loop-rest-test.false)) c.loop-rest.invariant.1
+
+pub loop-rest-smaller : goal.loop-rest-smaller
+loop-rest-smaller c =
+    subst (λ (l : List ℕ). length l < length c.loop-rest.rest.now) (sym c.split_at.ensures.back)
+    (less_left (event_of c.in-Ok.fed.event) c.in-Ok.fed.used c.loop-rest.rest.now c.in-Ok.ensures.used.0 (λ none. (c.in-Ok.ensures.more none).0)
+    (λ x is. (c.in-Ok.ensures.event x is).0) (sym c.is_empty.ensures ∙ c.loop-rest-test.true))

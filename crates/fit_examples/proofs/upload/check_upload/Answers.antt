@@ -1,6 +1,8 @@
 -- What is fed is a front of the upload, and at the end all of it.
 use Rattle.fit_examples.proofs.Common.{◌^◌, ◌<◌, length, rules, subst, sym, ◌∙◌, eqb-true, slice_is_bytes, IsFaultOf, LacksMemoryAt, bad_end, good_end, stopped}
 use Rattle.fit_examples.proofs.Common.{stopped_at, stops, chain_end, fault_of_chain, Feeds, feeds_on}
+use Rattle.fit_examples.proofs.Common.{List, ℕ, event_of}
+use Rattle.fit_examples.proofs.Shrinking.{feeds_first, less_left}
 use Rattle.fit_examples.proofs.upload.check_upload.Goals as goal
 
 pub returns-in-Err-clause-fault : goal.returns-in-Err-clause-fault
@@ -44,3 +46,12 @@ loop-rest-preserved c =
     subst (Feeds c.args.upload.now c.feed.new.self) (sym c.split_at.ensures.back)
     (feeds_on c.args.upload.now c.loop-rest.decoder c.feed.new.self c.loop-rest.rest.now c.in-Ok.fed.used c.loop-rest.invariant
     c.in-Ok.ensures.used.1 c.in-Ok.ensures.viable)
+
+pub loop-rest-init : goal.loop-rest-init
+loop-rest-init c = feeds_first c.args.upload.now c.new-decoder.result c.new-decoder.ensures
+
+pub loop-rest-smaller : goal.loop-rest-smaller
+loop-rest-smaller c =
+    subst (λ (l : List ℕ). length l < length c.loop-rest.rest.now) (sym c.split_at.ensures.back)
+    (less_left (event_of c.in-Ok.fed.event) c.in-Ok.fed.used c.loop-rest.rest.now c.in-Ok.ensures.used.0 (λ none. (c.in-Ok.ensures.more none).0)
+    (λ x is. (c.in-Ok.ensures.event x is).0) (sym c.is_empty.ensures ∙ c.loop-rest-test.true))
