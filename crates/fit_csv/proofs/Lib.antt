@@ -10,6 +10,8 @@ mod MessageRows
 mod ValueRows
 mod ValueSteps
 mod PartSteps
+mod NextSteps
+mod KnownRows
 mod SoFar
 mod SoundSteps
 mod MoreRows

@@ -2,6 +2,8 @@ use Rattle.fit_csv.proofs.Common.{◌∙◌, [], refl, row, IsRowOfThree, Row, D
 use Rattle.std.proofs.Common.{decimal}
 use Rattle.fit_csv.proofs.Closest.{closest}
 use Rattle.fit_csv.proofs.ClosestRows.{three-closest}
+use Rattle.fit_csv.proofs.Common.{sym}
+use Rattle.fit_csv.proofs.SevenCells.{same-cells}
 use Rattle.fit_csv.proofs.from.definition.three_bytes.Goals as goal
 
 pub returns-in-Some-clause-err : goal.returns-in-Some-clause-err
@@ -18,3 +20,9 @@ returns-in-Some-clause-err c =
     c.byte_in-c.result
     c.byte_in-a.ensures c.byte_in-b.ensures c.byte_in-c.ensures)
     differs
+
+pub returns-in-None-clause-ok : goal.returns-in-None-clause-ok
+returns-in-None-clause-ok c =
+    sym (c.in-None.ensures.none refl)
+    ∙ same-cells refl (c.as_bytes.ensures.value ∙ c.format.ensures.text) (c.as_bytes-2.ensures.value ∙ c.format-2.ensures.text)
+    (c.as_bytes-3.ensures.value ∙ c.format-3.ensures.text) refl refl refl

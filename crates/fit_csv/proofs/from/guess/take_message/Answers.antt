@@ -3,6 +3,7 @@ use Rattle.fit_record.specs.Records.{IsRecord}
 use Rattle.fit_rows.specs.ChainRows.{data_rows}
 use Rattle.fit_csv.specs.inner.Judging.{FileTakesRows}
 use Rattle.fit_csv.proofs.WholeRecords.{record-goes-on}
+use Rattle.std.proofs.lemmas.Result.{IfOk-from_err}
 use Rattle.fit_csv.proofs.from.guess.take_message.Goals as goal
 
 pub message_rows-count-requires : goal.message_rows-count-requires
@@ -27,3 +28,15 @@ returns-clause-rows c =
     let is = subst (λ b. IsRecord (known f.before) (Data v) b) (sym c.bytes-bytes.ensures) read.1 in
     subst (FileTakesRows c.args.text.now c.in-Some.left.now count f) (sym (c.in_ok-add_message.ensures.ok v is))
     (record-goes-on f (Data v) c.args.text.now c.in-Some.left.now count c.requires.between is.0 tt read.2 (c.message_rows-count.ensures v is))
+
+pub returns-in_err-left-clause-rows : goal.returns-in_err-left-clause-rows
+returns-in_err-left-clause-rows c = IfOk-from_err c.from_residual.result _ c.from_residual.ensures.0
+
+pub returns-in_err-left-clause-same : goal.returns-in_err-left-clause-same
+returns-in_err-left-clause-same c = IfOk-from_err c.from_residual.result _ c.from_residual.ensures.0
+
+pub returns-in_err-add_message-clause-rows : goal.returns-in_err-add_message-clause-rows
+returns-in_err-add_message-clause-rows c = IfOk-from_err c.from_residual-in_err-add_message.result _ c.from_residual-in_err-add_message.ensures.0
+
+pub returns-in_err-add_message-clause-same : goal.returns-in_err-add_message-clause-same
+returns-in_err-add_message-clause-same c = IfOk-from_err c.from_residual-in_err-add_message.result _ c.from_residual-in_err-add_message.ensures.0

@@ -1,10 +1,11 @@
 use Rattle.fit_csv.proofs.Common.{◌≡◌, ◌∙◌, [], refl, sym, ap, subst, message_label, optional_number, row, IsMessageRow, global_at, Row, DifferAt}
 use Rattle.fit_csv.proofs.Common.{row_of}
-use Rattle.std.proofs.Common.{decimal, rules}
+use Rattle.std.proofs.Common.{decimal}
 use Rattle.std.specs.Prelude.{codes}
 use Rattle.fit_csv.proofs.Closest.{closest}
 use Rattle.fit_csv.proofs.SevenCells.{same-cells}
 use Rattle.fit_csv.proofs.MessageRows.{message-closest, time_cell}
+use Rattle.std.proofs.lemmas.Result.{IfOk-from_err}
 use Rattle.fit_csv.proofs.from.message.rest_of_message.Goals as goal
 
 pub returns-in-Some-clause-err : goal.returns-in-Some-clause-err
@@ -33,4 +34,15 @@ returns-in-Some-clause-err c =
     differs
 
 pub returns-in_ok-with_capacity-in-None-clause-ok : goal.returns-in_ok-with_capacity-in-None-clause-ok
-returns-in_ok-with_capacity-in-None-clause-ok c = search rules
+returns-in_ok-with_capacity-in-None-clause-ok c =
+    let ec : c.as_bytes.result.now ≡ message_label (global_at c.args.before.now c.args.local) =
+    c.as_bytes.ensures.value ∙ c.as_str.ensures.value ∙ c.message_label-label.ensures ∙ ap message_label c.global_at.ensures in
+    let ed : c.as_bytes-2.result.now ≡ time_cell c.args.before.now c.offset_in-offset.result =
+    c.as_bytes-2.ensures.value ∙ c.as_str-2.ensures.value ∙ c.header_time_text-time.ensures in
+    sym (c.in-None.ensures.none refl) ∙ same-cells c.requires.kind (sym c.requires.shown) c.optional_number.ensures ec ed refl refl
+
+pub returns-in_err-with_capacity-in-None-clause-start : goal.returns-in_err-with_capacity-in-None-clause-start
+returns-in_err-with_capacity-in-None-clause-start c = IfOk-from_err c.from_residual.result _ c.from_residual.ensures.0
+
+pub returns-in_err-with_capacity-in-None-clause-ok : goal.returns-in_err-with_capacity-in-None-clause-ok
+returns-in_err-with_capacity-in-None-clause-ok c = IfOk-from_err c.from_residual.result _ c.from_residual.ensures.0

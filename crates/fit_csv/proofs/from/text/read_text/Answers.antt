@@ -1,5 +1,6 @@
 use Rattle.fit_csv.proofs.Common.{◌≡◌, ◌++◌, inr, take, arith, sym, subst, Consumes, Consumes-trans}
-use Rattle.std.proofs.Common.{List, ℕ, rules}
+use Rattle.std.proofs.Common.{List, ℕ}
+use Rattle.fit_report.proofs.Outcomes.{ate_nothing}
 use Rattle.fit_csv.proofs.from.text.read_text.Goals as goal
 
 pub returns-then-is_err-clause-err : goal.returns-then-is_err-clause-err
@@ -24,7 +25,9 @@ returns-then-len-gt-MOST-clause-err g c =
     )
 
 pub returns-then-got-eq0-clause-all : goal.returns-then-got-eq0-clause-all
-returns-then-got-eq0-clause-all g c = search rules
+returns-then-got-eq0-clause-all g c =
+    ate_nothing (g.S.Source.remaining c.args.source.now) (g.S.Source.remaining c.loop-count.source) (g.S.Source.remaining c.take.new.self)
+    c.loop-count.text.items c.take.new.buffer c.in-Ok.got c.loop-count.invariant.taken c.in-Ok.ensures.bytes.0 c.if-got-eq0.true
 
 pub returns-then-got-eq0-clause-end : goal.returns-then-got-eq0-clause-end
-returns-then-got-eq0-clause-end g c = search rules
+returns-then-got-eq0-clause-end g c = c.in-Ok.ensures.bytes.1 c.if-got-eq0.true (omega arith)
