@@ -1,4 +1,4 @@
 use Rattle.fit_run.proofs.lines.truncated.Goals as goal
 
 pub returns : goal.returns
-returns c = cc
+returns c = c.numbered.ensures.text
