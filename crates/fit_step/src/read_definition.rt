@@ -34,6 +34,7 @@ fn order_of(byte: u8) -> Option<Order>
 }
 
 /// The number of two bytes.
+#[inline(always)]
 pub(crate) fn global_of(order: Order, first: u8, second: u8) -> u16
     ensures { result ≡ number order (first ∷ second ∷ []) }
 {
