@@ -49,6 +49,9 @@ fn take(alloc: Global, sink: &mut WriteSink<Vec<u8>>, taken: &mut History<u8>) -
     text
 }
 
+/// Frees what a lane has.
+pub(crate) fn free<R: Report + Drop>(_lane: Lane<R>) {}
+
 impl<R: Report + Drop> Lane<R> {
     /// Nothing was fed, and nothing handed out. `None` where there is no memory for the first line.
     pub fn new(alloc: Global, reporter: R, first: &[u8]) -> Option<Self>

@@ -4,7 +4,7 @@ ghost use Rattle.fit_stream.specs.Flows.{EndsFlow, FeedsFlow};
 ghost use Rattle.fit_stream.specs.Streams.{first_for, line_for};
 
 use crate::Kind;
-use crate::lane::Lane;
+use crate::lane::{Lane, free};
 use crate::silent::SilentReport;
 use fit_messages::MessagesReport;
 use fit_report::ReportFault;
@@ -39,7 +39,15 @@ pub struct Stream {
 }
 
 /// Frees what a stream has.
-fn free_lanes(_lanes: Lanes) {}
+fn free_lanes(lanes: Lanes) {
+    match lanes {
+        Lanes::Check(lane) => free(lane),
+        Lanes::Show(lane) => free(lane),
+        Lanes::Table(lane) => free(lane),
+        Lanes::Rows(lane) => free(lane),
+        Lanes::Messages(lane) => free(lane),
+    }
+}
 
 impl Drop for Stream {
     fn drop(self) {
