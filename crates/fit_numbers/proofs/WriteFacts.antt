@@ -103,11 +103,13 @@ whole_alone n = let one : n / 1 ≡ n = omega arith in append-nil (decimal (n / 
 pub both_parts : (text a b : List ℕ) → (text ++ a) ++ b ≡ text ++ (a ++ b)
 both_parts = append_assoc
 
--- a sign and a size, each written after what was there
-pub signed_text : (before between after : List ℕ) (v : ℤ) (size decimals unit : ℕ) → between ≡ before ++ sign v
-    → after ≡ between ++ decimal (size / unit) ++ fraction decimals (size % unit) → size ≡ unsigned_abs v → unit ≡ 10 ^ decimals
+-- a sign and a size of the same number, each written after what was there
+pub signed_text : {w : ℤ} (before between after : List ℕ) (v : ℤ) (size decimals unit : ℕ) → w ≡ v → between ≡ before ++ sign w
+    → after ≡ between ++ decimal (size / unit) ++ fraction decimals (size % unit) → size ≡ unsigned_abs w → unit ≡ 10 ^ decimals
     → after ≡ before ++ fixed_text v decimals
-signed_text before between after v size decimals unit front text is power =
+signed_text before between after v size decimals unit same begun text written power =
+    let front = begun ∙ ap (λ n. before ++ sign n) same in
+    let is = written ∙ ap unsigned_abs same in
     let whole = decimal (size / unit) in
     let part = fraction decimals (size % unit) in
     text ∙ ap (λ t. (t ++ whole) ++ part) front ∙ ap (λ t. t ++ part) (append_assoc before (sign v) whole)
