@@ -1,7 +1,7 @@
 -- Items by the form of their field.
 use Rattle.fit_cells.proofs.Common.{◌≡◌, ◌∙◌, ◌^◌, ℕ, ℤ, pos, ◌-ℤ◌, ◌*ℤ◌, sym, false, inl, inr, cases_Bool, ne_eqb, Signed, Unsigned, base_type}
 use Rattle.fit_cells.proofs.Common.{twos_complement, fixed_text, Meaning, NumberForm, item_text, IsFormOf, arith, ints, w64, FitsSigned, neg_ℤ, ◌≤ℤ◌}
-use Rattle.fit_cells.specs.Forms.{IsFactor}
+use Rattle.fit_numbers.specs.Scaled.{IsFactor}
 use Rattle.std.proofs.Common.{Option, ◌==◌}
 use Rattle.std.specs.Prelude.{if◌then◌else◌}
 

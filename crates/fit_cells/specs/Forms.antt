@@ -3,13 +3,10 @@ use Rattle.std.specs.Prelude.{◌≡◌, ◌≤◌, ◌⊎◌, ◌^◌, ℕ, ℤ
 use Rattle.fit_base.specs.declared.code.Class.TheVariants.{Signed, Unsigned}
 use Rattle.fit_base.specs.BaseTypes.{base_type}
 use Rattle.fit_numbers.specs.FixedText.{fixed_text}
+use Rattle.fit_numbers.specs.Scaled.{IsFactor}
 use Rattle.fit_profile.specs.Profile.{Meaning}
 use Rattle.fit_cells.specs.declared.form.NumberForm.{NumberForm}
 use Rattle.fit_cells.specs.Cells.{number_text}
-
--- The factors of the scales of the profile: 10 to the power of their decimals, over the scale.
-abbrev pub IsFactor : ℕ → Type 0
-IsFactor n = (n ≡ 1) ⊎ (n ≡ 2) ⊎ (n ≡ 625) ⊎ (n ≡ 390625)
 
 -- its numbers have 64 bits at most, also when they are scaled
 pub record IsSmallForm (f : NumberForm) : Type 0 where

@@ -1,17 +1,17 @@
 //! How the numbers of a field are shown, found out once for many of them.
-ghost use Rattle.std.specs.Prelude.{◌≡◌, ◌≢◌, ◌≤◌, ◌<◌, ◌⊎◌, ◌++◌, ◌+◌, take, ◌^◌, ◌/◌, ◌*◌, pos, neg_ℤ, ◌*ℤ◌, ◌-ℤ◌, ◌≤ℤ◌, ◌∷◌, [], ℕ, ℤ, Option, IfSome, IsNone, OnErr, OnOk, length, option_map, if◌then◌else◌};
+ghost use Rattle.std.specs.Prelude.{◌≡◌, ◌≢◌, ◌≤◌, ◌<◌, ◌⊎◌, ◌++◌, ◌+◌, take, ◌^◌, pos, neg_ℤ, ◌*ℤ◌, ◌-ℤ◌, ◌≤ℤ◌, ◌∷◌, [], ℕ, ℤ, Option, IfSome, IsNone, OnErr, OnOk, length, option_map, if◌then◌else◌};
 ghost use Rattle.fit_base.specs.BaseTypes.{base_type};
 ghost use Rattle.fit_base.specs.Numbers.{twos_complement};
 ghost use Rattle.fit_numbers.specs.FixedText.{StillBegins};
 ghost use Rattle.fit_numbers.specs.FixedText.{fixed_text};
 ghost use Rattle.fit_profile.specs.Names.{meaning};
 ghost use Rattle.fit_profile.specs.Profile.{Meaning};
-ghost use Rattle.fit_numbers.specs.Scaled.{decimals, IsScale};
+ghost use Rattle.fit_numbers.specs.Scaled.{IsScale};
 ghost use Rattle.fit_cells.specs.Cells.{item_text, number_text};
-ghost use Rattle.fit_cells.specs.Forms.{IsFactor, IsFormOf, IsSmallForm};
+ghost use Rattle.fit_cells.specs.Forms.{IsFormOf, IsSmallForm};
 
 use fit_base::{Class, Code, Items, signed};
-use fit_profile::{Fixed, Info, decimals_of, put_fixed, write_fixed};
+use fit_profile::{Fixed, Info, decimals_of, factor_of, put_fixed, shift, write_fixed};
 use std::alloc::AllocError;
 
 /// How the items of a field are shown, where they are numbers of at most four bytes.
@@ -29,20 +29,6 @@ pub struct NumberForm {
     pub shift: u64,
     /// How many decimals are shown.
     pub decimals: u8,
-}
-
-/// How many units of the last decimal one over a scale is.
-fn factor_of(scale: u32) -> u32
-    requires { IsScale scale }
-    ensures value { result ≡ 10 ^ decimals scale / scale }
-    ensures known { IsFactor result }
-{
-    match scale {
-        5 => 2,
-        16 => 625,
-        256 => 390_625,
-        _ => 1,
-    }
 }
 
 /// The form of numbers of this width that mean what the profile says.
@@ -63,7 +49,7 @@ fn form_by(signed: bool, width: u8, invalid: u64, info: Option<Info>) -> NumberF
             width,
             invalid,
             factor: factor_of(info.scale),
-            shift: info.offset as u64 * info.scale as u64,
+            shift: shift(info.offset, info.scale),
             decimals: decimals_of(info.scale),
         },
         None => NumberForm {

@@ -1,12 +1,12 @@
 //! Raw values, read back from the texts of numbers.
-ghost use Rattle.std.specs.Prelude.{◌≡◌, ◌<◌, ◌≤◌, ◌⊎◌, ◌^◌, ◌*◌, ◌/◌, ℕ, ℤ, pos, neg_ℤ, ◌*ℤ◌, ◌-ℤ◌, ◌≤ℤ◌, ◌<ℤ◌, IfSome, Some, None, ◌==◌, [], if◌then◌else◌, option_map};
+ghost use Rattle.std.specs.Prelude.{◌≡◌, ◌<◌, ◌≤◌, ◌⊎◌, ◌^◌, ◌/◌, ℕ, ℤ, pos, neg_ℤ, ◌*ℤ◌, ◌-ℤ◌, ◌≤ℤ◌, ◌<ℤ◌, IfSome, Some, None, ◌==◌, [], if◌then◌else◌, option_map};
 ghost use Rattle.fit_base.specs.BaseTypes.{base_type};
 ghost use Rattle.fit_profile.specs.Names.{meaning};
 ghost use Rattle.fit_numbers.specs.Scaled.{decimals, IsScale};
 ghost use Rattle.fit_cells.specs.Cells.{number_text};
 
 use fit_base::{Code, greatest};
-use fit_profile::{Fixed, Info, fixed};
+use fit_profile::{Fixed, Info, fixed, shift};
 
 /// A size in units of the last decimal, over what a whole one has of them.
 fn over_factor(size: u128, scale: u32) -> u128
@@ -35,15 +35,6 @@ fn whole(value: i128, scale: u32) -> Option<i128>
     }
     let size = size as i128;
     Some(if value < 0 { -size } else { size })
-}
-
-/// An offset in units of the raw value.
-fn shift(offset: u32, scale: u32) -> u64
-    requires { IsScale scale }
-    ensures value { result ≡ offset * scale }
-    ensures bound { result ≤ 2 ^ 42 }
-{
-    offset as u64 * scale as u64
 }
 
 /// The raw value that a field with this offset, in units of the raw value, shows as a value in units of the last

@@ -15,6 +15,7 @@ pub mod SumFed
 pub mod Places
 pub mod Bounds
 mod KnownRefusals
+pub mod FirstEvents
 pub mod FirstFile
 pub mod NoSooner
 pub mod Missing

@@ -1,13 +1,13 @@
 -- The names of std, of the crates below and of this crate's specs that several proofs use: each proof takes them from here.
 pub use Rattle.std.proofs.Common.{◌≡◌, ℕ, ◌-◌, ◌<◌, List, [], length, sym, ap, ◌∙◌, subst, arith, None, true, false, ◌+◌, suc, ◌∷◌, ◌++◌, take, drop}
-pub use Rattle.std.proofs.Common.{get_or, Some, Ok, Err, append_assoc, length-append, ◌^◌, min, refl, ◌≤◌, slice_index, Fits, w64, inl, inr, cond}
+pub use Rattle.std.proofs.Common.{get_or, Some, Ok, Err, append_assoc, length-append, ◌^◌, min, refl, ◌≤◌, slice_index, inl, inr, cond}
 pub use Rattle.std.proofs.Common.{◌⊎◌, ◌/◌, ◌%◌, zero, rules}
 pub use Rattle.std.proofs.Math.Seq.{take-append_seam, take-length, take-append-add, take-add}
 pub use Rattle.std.proofs.lemmas.Bool.{cond-true, cond-false, eq-eqb, ne_eqb, eqb-true}
 pub use Rattle.std.proofs.lemmas.List.{append-nil, length-take-le, take-append-drop, append_cancel_left, length-take, get_or-append-add, length-drop}
 pub use Rattle.std.proofs.lemmas.List.{get_or-drop, take_more}
 pub use Rattle.std.specs.Io.KnownBytes.{Consumes, IsAtEnd, Keeps}
-pub use Rattle.std.specs.Prelude.{Vec, if◌then◌else◌, IsErr, IsOk, ◌↔◌, ◌==◌, OnErr, is_some, map}
+pub use Rattle.std.specs.Prelude.{Vec, if◌then◌else◌, IsErr, IsOk, ◌↔◌, ◌==◌, map}
 pub use Rattle.std.specs.Result.{is_ok, is_err}
 pub use Rattle.std.specs.declared.alloc.Global.{Global}
 pub use Rattle.fit_base.proofs.ByteLists.{IsBytes-append, IsBytes-take, IsBytes-none, IsBytes-drop, slice_is_bytes}
@@ -16,7 +16,7 @@ pub use Rattle.fit_chain.proofs.Bounds.{short_bytes}
 pub use Rattle.fit_chain.proofs.Completions.{goes_viable, fill_data}
 pub use Rattle.fit_chain.proofs.DataFed.{InRecords, data_starts, data_quiet, data_come, data_viable, left_after, item_come, item_least, data_refuses}
 pub use Rattle.fit_chain.proofs.DataFed.{data_wants, data_takes}
-pub use Rattle.fit_chain.proofs.Faults.{chain_come, refused_in, wants_in, chain_end, fault_of_chain}
+pub use Rattle.fit_chain.proofs.Faults.{chain_come, refused_in, wants_in, chain_end}
 pub use Rattle.fit_chain.proofs.Lacking.{lacks_for_byte, lacks_for_event, lacks_for_more, lacks_in_rest, lacks_at_end, needs_at_end}
 pub use Rattle.fit_chain.proofs.Learned.{known_in_data}
 pub use Rattle.fit_chain.proofs.Missing.{ended_chain, needs_some, needs_no_sooner}
@@ -32,7 +32,7 @@ pub use Rattle.fit_chain.specs.Events.{Event, header, item, file_end, AreEvents}
 pub use Rattle.fit_chain.specs.GoingOn.{files_begun, ChainGoesOn}
 pub use Rattle.fit_chain.specs.Memory.{IsAny, IsItem, IsItemOrEnd, MayLackMemory, MayLackMemoryIn}
 pub use Rattle.fit_chain.specs.Needs.{Needs}
-pub use Rattle.fit_chain.specs.Pieces.{Quiet, Least, TellsRecords}
+pub use Rattle.fit_chain.specs.Pieces.{Quiet, Least}
 pub use Rattle.fit_chain.specs.Progress.{at_header, Progress, HasCome, at_data, progress_bytes}
 pub use Rattle.fit_chain.specs.Refusals.{IsRefused, reason_at}
 pub use Rattle.fit_chain.specs.declared.event.Event.{Event as Answer}
@@ -65,6 +65,6 @@ pub use Rattle.fit_decode.specs.inner.Between.{IsAfter, IsEnd}
 pub use Rattle.fit_decode.specs.inner.Invariant.{IsSoundDecoder, fields_inside, seen_in}
 pub use Rattle.fit_decode.specs.inner.Kept.{Fields, InHeader, InData, InSum, HoldsAt, Holds, Advanced, NotRefused, NextAnswer}
 pub use Rattle.fit_decode.specs.inner.Kept.{to_come, to_come_in, refusal_of}
-pub use Rattle.fit_decode.specs.inner.Scans.{IsHeaderPart, half_sum, HeaderScanned, SumScanned}
+pub use Rattle.fit_decode.specs.inner.Scans.{IsHeaderPart, half_sum, HeaderScanned}
 pub use Rattle.fit_decode.specs.inner.Sections.{HeaderFed, DataFed, SumFed, section_of}
 pub use Rattle.fit_decode.specs.inner.Turns.{FileRead, FileTold, LastPiece, Turned, FaultIn, Eaten, unrefused, PieceFed, TurnTold}

@@ -8,7 +8,7 @@ pub use Rattle.std.proofs.lemmas.List.{take_more, drop_more, take-append-drop, t
 pub use Rattle.std.proofs.lemmas.Result.{err_from_is_err_and}
 pub use Rattle.std.specs.Io.KnownBytes.{Appends}
 pub use Rattle.std.specs.List.{AllByRecursion}
-pub use Rattle.std.specs.Prelude.{OnErr, is_err, unwrap_or, option_map, OnOk, IfErr, flat_map, sum_by, slice_index_or, option_and_then, IsErrAnd}
+pub use Rattle.std.specs.Prelude.{OnErr, is_err, unwrap_or, option_map, OnOk, IfErr, flat_map, slice_index_or, option_and_then, IsErrAnd}
 pub use Rattle.std.specs.Prelude.{IsSomeAnd, ◌==◌, ◌||◌, ◌%◌}
 pub use Rattle.fit_base.proofs.Bytes.{length-little_bytes, length-number_bytes, front_back, found_passes}
 pub use Rattle.fit_base.specs.Fields.{items_bytes}
@@ -16,18 +16,17 @@ pub use Rattle.fit_base.specs.Numbers.{little_bytes, number_bytes}
 pub use Rattle.fit_base.specs.declared.items.Items.{Items}
 pub use Rattle.fit_base.specs.declared.number.Order.{Order}
 pub use Rattle.fit_base.specs.declared.number.Order.TheVariants.{Little}
-pub use Rattle.fit_frame.specs.Header.{HeaderFits, header_bytes, FormFits, ZeroIsSum as SumIsZero, SizeFits, fixed_part, sum_part}
+pub use Rattle.fit_frame.specs.Header.{HeaderFits, header_bytes, FormFits, ZeroIsSum as SumIsZero, SizeFits, fixed_part}
 pub use Rattle.fit_frame.specs.declared.header.Header.{Header}
 pub use Rattle.fit_frame.specs.declared.header.HeaderSum.{HeaderSum}
-pub use Rattle.fit_frame.specs.declared.header.HeaderSum.TheVariants.{Absent, Zero, True}
+pub use Rattle.fit_frame.specs.declared.header.HeaderSum.TheVariants.{Absent, Zero}
 pub use Rattle.fit_record.proofs.RecordLists.{all_fit-append, learn_all-append, records_bytes-append}
 pub use Rattle.fit_record.specs.Environment.{Environment, empty_environment, learn, learn_all, defined_at, defined_by, describe, description}
 pub use Rattle.fit_record.specs.Faults.{first_fault, HasRange}
 pub use Rattle.fit_record.specs.Files.{IsWellFormed, body, summed, file_bytes, chain_bytes, chain_limit, IsWellFormedChain}
 pub use Rattle.fit_record.specs.Laws.{FaultsAreExact}
-pub use Rattle.fit_record.specs.Records.{Fits, AllFit, record_bytes, records_bytes, data_header, data_bytes, order_at, architecture, field_bytes}
-pub use Rattle.fit_record.specs.Records.{dev_part, definition_header, definition_bytes, HaveShape, DataFits, DataHeaderFits, layout, dev_layout}
-pub use Rattle.fit_record.specs.Records.{dev_field_bytes}
+pub use Rattle.fit_record.specs.Records.{Fits, AllFit, record_bytes, records_bytes, data_header, data_bytes, order_at}
+pub use Rattle.fit_record.specs.Records.{HaveShape, DataFits, DataHeaderFits, layout, dev_layout}
 pub use Rattle.fit_record.specs.declared.definition.MessageDef.{MessageDef}
 pub use Rattle.fit_record.specs.declared.environment.Defined.{Defined}
 pub use Rattle.fit_record.specs.declared.file.FitFile.{FitFile}

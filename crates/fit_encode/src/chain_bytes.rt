@@ -6,8 +6,8 @@ ghost use Rattle.fit_base.specs.Numbers.{little_bytes};
 ghost use Rattle.fit_sum.specs.Checksum.{checksum};
 ghost use Rattle.fit_encode.specs.inner.Kept.{with_sum};
 
-use crate::spelling::sum_bytes;
 use crate::{Sink, put_all};
+use fit_frame::sum_bytes;
 use fit_sum::Sum;
 use std::alloc::{AllocError, Global};
 use std::marker::Model;

@@ -1,13 +1,12 @@
 //! The measuring pass: whether files can be written, and the first reason where they can't.
-ghost use Rattle.std.specs.Prelude.{◌≡◌, ◌⊎◌, ◌↔◌, ◌<◌, ◌^◌, [], ◌∷◌, IsTrue, OnOk, IfOk, IfErr, length, Err};
-ghost use Rattle.fit_frame.specs.Header.{FormFits};
+ghost use Rattle.std.specs.Prelude.{◌≡◌, ◌⊎◌, ◌<◌, ◌^◌, [], ◌∷◌, OnOk, IfOk, IfErr, length, Err};
 ghost use Rattle.fit_record.specs.Environment.{empty_environment};
 ghost use Rattle.fit_record.specs.Records.{AllFit, records_bytes};
 ghost use Rattle.fit_record.specs.Files.{IsWellFormed, IsWellFormedChain, body, chain_limit};
 ghost use Rattle.fit_encode.specs.Faults.{shape_fault, IsRecordFault, IsFileFault, IsFirstFault};
 
 use crate::EncodeFault;
-use fit_frame::{HeadFault, Header, head_bytes};
+use fit_frame::{HeadFault, has_form, head_bytes};
 use fit_record::{CHAIN_LIMIT, Env, FitFile, Record, ShapeFault};
 use std::alloc::Allocator;
 
@@ -63,17 +62,6 @@ fn check_file<A: Allocator + Copy>(
         Ok(_) => Ok(length),
         Err(HeadFault::BadHeader) => Err(EncodeFault::BadHeader { file: number }),
         Err(HeadFault::ZeroIsSum) => Err(EncodeFault::ZeroIsSum { file: number }),
-    }
-}
-
-/// Whether the parts of a header go together, whatever the data is.
-pub(crate) fn has_form(header: &Header) -> bool
-    ensures { IsTrue result ↔ FormFits header.now }
-{
-    match head_bytes(header, 0) {
-        Ok(_) => true,
-        Err(HeadFault::ZeroIsSum) => true,
-        Err(HeadFault::BadHeader) => false,
     }
 }
 

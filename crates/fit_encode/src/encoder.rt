@@ -24,7 +24,6 @@ use std::marker::Model;
 ///
 /// It keeps no sink: each call writes to the one that it is given. After a good `finish` every call
 /// returns `DeclaredLength`, and after `Write` every call returns that fault again.
-#[derive(Drop)]
 pub struct Encoder {
     env: Env,
     out: Spelling,
@@ -39,6 +38,23 @@ pub struct Encoder {
     finished: bool,
     head: History<u8>,
     records: History<Record>,
+}
+
+// A call wherever an encoder is dropped: derived, all that it frees would be written out and proved there.
+impl Drop for Encoder {
+    fn drop(self) {
+        let Encoder {
+            env: _env,
+            out: _out,
+            declared: _,
+            size: _,
+            count: _,
+            failed: _,
+            finished: _,
+            head: _head,
+            records: _records,
+        } = self;
+    }
 }
 
 impl Model for Encoder {

@@ -12,10 +12,9 @@ ghost use Rattle.fit_encode.specs.Encoding.{file_of};
 ghost use Rattle.fit_encode.specs.inner.Kept.{AreWrittenUnless};
 
 use crate::chain_bytes::ChainBytes;
-use crate::check::has_form;
 use crate::{EncodeFault, Sink, SpelledRecords};
 use arrayvec::ArrayVec;
-use fit_frame::{HeadFault, Header, head_bytes};
+use fit_frame::{HeadFault, Header, has_form, head_bytes};
 use fit_history::History;
 use fit_record::{CHAIN_LIMIT, FitFile, Record};
 use std::alloc::{AllocError, Global};

@@ -8,6 +8,7 @@ ghost use Rattle.fit_encode.specs.inner.Spelling.{bytes_in_order, IsSpellable};
 use crate::place::{place_bytes, place_number, place_record};
 use crate::{Sink, put_all};
 use fit_base::Order;
+use fit_frame::sum_bytes;
 use fit_record::Record;
 use fit_sum::Sum;
 use std::alloc::Allocator;
@@ -206,11 +207,4 @@ impl Spelling {
     {
         self.sum.value()
     }
-}
-
-/// The bytes of a checksum, the lowest first.
-pub(crate) fn sum_bytes(sum: u16) -> [u8; 2]
-    ensures { result ≡ little_bytes 2 sum }
-{
-    sum.to_le_bytes()
 }

@@ -10,4 +10,4 @@ mod spelling;
 pub use header::{Header, HeaderSum, PROTOCOL_2_0};
 pub use reader::HeadReader;
 pub use reason::{HeadFault, Reason};
-pub use spelling::head_bytes;
+pub use spelling::{has_form, head_bytes, sum_bytes};

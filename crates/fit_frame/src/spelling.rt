@@ -30,8 +30,8 @@ pub fn head_bytes(header: &Header, data_len: u32) -> Result<ArrayVec<u8, 255>, H
     Ok(joined(&fixed, header.sum, sum, header.rest.as_slice()))
 }
 
-/// Whether size, version, word and further bytes go together.
-fn has_form(header: &Header) -> bool
+/// Whether the size, the major protocol version, the header checksum and the further bytes of a header go together, whatever the data is.
+pub fn has_form(header: &Header) -> bool
     ensures { IsTrue result ↔ FormFits header.now }
 {
     header.protocol / 16 <= 2 && has_size(header.sum, header.size, header.rest.as_slice())
@@ -79,13 +79,11 @@ pub(crate) fn checksum(bytes: &[u8]) -> u16
     sum.value()
 }
 
-/// The bytes of a sum, the lowest first.
-fn sum_bytes(sum: u16) -> [u8; 2]
+/// The bytes of a checksum, the lowest first.
+pub fn sum_bytes(sum: u16) -> [u8; 2]
     ensures { result ≡ little_bytes 2 sum }
 {
-    let mut bytes = [0, 0];
-    LittleEndian::write_u16(&mut bytes, sum);
-    bytes
+    sum.to_le_bytes()
 }
 
 /// The parts of a header one after another.

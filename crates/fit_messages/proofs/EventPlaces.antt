@@ -18,12 +18,12 @@ use Rattle.fit_record.specs.Environment.{empty_environment, learn, defined_at}
 use Rattle.fit_record.specs.Files.{body, summed, file_bytes, chain_bytes, IsWellFormed}
 use Rattle.fit_record.specs.Records.{AllFit, DataFits, Fits, records_bytes, record_bytes}
 use Rattle.fit_chain.proofs.Common.{checksum}
+use Rattle.fit_chain.proofs.FirstEvents.{First, HasNoPart, first_of}
 use Rattle.fit_chain.specs.Events.{Event, AreEvents, header, item, file_end, file_events, progress_events}
 use Rattle.fit_chain.specs.Progress.{Progress, at_header, at_data, progress_bytes, IsUnfinished}
 use Rattle.fit_profile.specs.Looks.{known}
 use Rattle.fit_profile.specs.Told.{told}
 use Rattle.fit_report.specs.Heard.{latest_records}
-use Rattle.fit_messages.proofs.FirstEvents.{First, HasNoPart, first_of}
 use Rattle.fit_messages.specs.Blocks.{bytes_heard, event_block, message_block, low}
 unfoldable use Rattle.fit_messages.specs.Blocks.{low}
 use Rattle.fit_messages.specs.Laws.{BlocksHaveTheirPlaces, EndAt}

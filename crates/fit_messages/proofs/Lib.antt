@@ -9,5 +9,4 @@ pub mod ToldEvents
 pub mod TakenDefinitions
 pub mod TakenValues
 pub mod BlockLengths
-pub mod FirstEvents
 pub mod EventPlaces

@@ -12,4 +12,4 @@ mod value;
 pub use label::{field_label, message_label};
 pub use profile::{Info, field_info, message_name};
 pub use scaled::fixed;
-pub use value::{in_scale, value_in};
+pub use value::{in_scale, value_in, value_of};

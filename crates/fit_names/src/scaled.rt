@@ -1,18 +1,9 @@
 //! What the raw values of a field mean.
-ghost use Rattle.std.specs.Prelude.{◌≡◌, ◌≤◌, ◌≤ℤ◌, ◌<ℤ◌, ◌*ℤ◌, ◌*◌, ◌^◌, pos, neg_ℤ};
+ghost use Rattle.std.specs.Prelude.{◌≡◌, ◌≤◌, ◌≤ℤ◌, ◌<ℤ◌, ◌*ℤ◌, ◌^◌, pos, neg_ℤ};
 ghost use Rattle.fit_numbers.specs.Scaled.{decimals, IsScale, IsScaled};
 
 use crate::Info;
-use fit_numbers::{Fixed, decimals_of};
-
-/// An offset in units of the raw value.
-fn shift(offset: u32, scale: u32) -> u64
-    requires { IsScale scale }
-    ensures value { result ≡ offset * scale }
-    ensures bound { result ≤ 2 ^ 42 }
-{
-    offset as u64 * scale as u64
-}
+use fit_numbers::{Fixed, decimals_of, shift};
 
 /// A number of whole units in units of the last decimal, over the scale.
 fn in_decimals(number: i128, scale: u32) -> i128

@@ -1,5 +1,5 @@
 //! The numbers that items of fields hold.
-ghost use Rattle.std.specs.Prelude.{◌≡◌, ◌⊎◌, ◌+◌, ◌≤◌, ◌<◌, ◌^◌, ◌≤ℤ◌, ◌<ℤ◌, ◌==◌, ◌&&◌, not, nat_lt, if◌then◌else◌, IfSome, option_and_then, option_map, pos, neg_ℤ};
+ghost use Rattle.std.specs.Prelude.{◌≡◌, ◌⊎◌, ◌+◌, ◌≤◌, ◌<◌, ◌^◌, ◌≤ℤ◌, ◌<ℤ◌, ◌==◌, ◌&&◌, not, nat_lt, if◌then◌else◌, IfSome, option_and_then, option_map, pos, neg_ℤ, slice_get};
 ghost use Rattle.fit_base.specs.Numbers.{twos_complement};
 ghost use Rattle.fit_numbers.specs.Scaled.{IsScale};
 ghost use Rattle.fit_names.specs.Values as values;
@@ -107,15 +107,27 @@ fn valid_number(code: u8, width: u8, bits: u64) -> Option<i128>
     }
 }
 
-/// The number of a field's first item.
+/// The number of an item of field `number` of a message, by the base type code and the width of the items, scaled as the profile
+/// says, where it lists the field, and the item is a valid number.
 #[inline(always)]
-fn first_number<A: Allocator>(field: &FieldDef, items: &Items<A>) -> Option<i128>
-    ensures number { result ≡ values.first_number field.now items.now }
-    ensures least { IfSome result (λ n. neg_ℤ (pos (2 ^ 63)) ≤ℤ n) }
-    ensures most { IfSome result (λ n. n <ℤ pos (2 ^ 64)) }
+pub fn value_of(global: u16, number: u8, code: u8, width: u8, bits: u64) -> Option<Fixed>
+    ensures value { IsValueOf (option_and_then
+        (λ raw. option_map (λ m. (raw, m)) (names.field global number))
+        (values.valid_number code width bits)) result }
+    ensures few { IfSome result (λ v. v.decimals ≤ 8) }
+{
+    let raw = valid_number(code, width, bits)?;
+    let info = info_of(global, number)?;
+    Some(fixed(raw, info))
+}
+
+/// The first of the items.
+#[inline(always)]
+fn first_item<A: Allocator>(items: &Items<A>) -> Option<u64>
+    ensures { result ≡ slice_get items.now.bits 0 }
 {
     match items.bits.as_slice() {
-        [bits, ..] => valid_number(field.code, items.width, *bits),
+        [bits, ..] => Some(*bits),
         [] => None,
     }
 }
@@ -134,7 +146,6 @@ pub fn value_in<A: Allocator>(
         (values.first_number field.now items.now)) result }
     ensures few { IfSome result (λ v. v.decimals ≤ 8) }
 {
-    let raw = first_number(field, items)?;
-    let info = info_of(global, number)?;
-    Some(fixed(raw, info))
+    let bits = first_item(items)?;
+    value_of(global, number, field.code, items.width, bits)
 }

@@ -15,6 +15,10 @@ decimals scale =
 abbrev pub IsScale : ℕ → Type 0
 IsScale s = (s ≡ 1) ⊎ (s ≡ 5) ⊎ (s ≡ 10) ⊎ (s ≡ 100) ⊎ (s ≡ 1000) ⊎ (s ≡ 16) ⊎ (s ≡ 256)
 
+-- the factors of these scales: 10 to the power of their decimals, over the scale
+abbrev pub IsFactor : ℕ → Type 0
+IsFactor n = (n ≡ 1) ⊎ (n ≡ 2) ⊎ (n ≡ 625) ⊎ (n ≡ 390625)
+
 -- v, in units of the last decimal, is exactly raw / scale - offset
 abbrev pub IsScaled : ℤ → ℕ → ℕ → ℤ → Type 0
 IsScaled raw scale offset v = v *ℤ pos scale ≡ (raw -ℤ pos (offset * scale)) *ℤ pos (10 ^ decimals scale)

@@ -4,9 +4,9 @@ ghost use Rattle.fit_numbers.specs.FixedText.{fraction, last_digits};
 
 use crate::triples::{ones, tens, three_last};
 
-/// Writes a byte. Returns the place after it, as all functions that write do.
+/// Writes a byte into bytes. Returns the place after it, as all functions that write do.
 #[inline(always)]
-pub(crate) fn write_byte(bytes: &mut [u8], at: usize, byte: u8) -> usize
+pub fn write_byte(bytes: &mut [u8], at: usize, byte: u8) -> usize
     requires room { at + 1 ≤ length bytes.old }
     ensures size { length bytes.new ≡ length bytes.old }
     ensures end { result ≡ at + 1 }

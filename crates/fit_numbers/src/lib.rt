@@ -14,6 +14,7 @@ mod write;
 
 pub use decimal::Fixed;
 pub use instant::{Label, utc_text};
+pub use last::write_byte;
 pub use put::{put_fixed, put_whole};
-pub use scaled::{decimals_of, degrees};
+pub use scaled::{decimals_of, degrees, factor_of, shift};
 pub use write::write_fixed;

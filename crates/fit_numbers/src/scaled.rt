@@ -1,6 +1,6 @@
 //! Scales, and positions in degrees.
 ghost use Rattle.std.specs.Prelude.{◌≡◌, ◌≤◌, ◌+◌, ◌*◌, ◌/◌, ◌^◌};
-ghost use Rattle.fit_numbers.specs.Scaled.{decimals, IsScale, IsDegrees};
+ghost use Rattle.fit_numbers.specs.Scaled.{decimals, IsFactor, IsScale, IsDegrees};
 
 use crate::Fixed;
 
@@ -18,6 +18,29 @@ pub fn decimals_of(scale: u32) -> u8
         256 => 8,
         _ => 0,
     }
+}
+
+/// How many units of the last decimal one over a scale is.
+pub fn factor_of(scale: u32) -> u32
+    requires { IsScale scale }
+    ensures value { result ≡ 10 ^ decimals scale / scale }
+    ensures known { IsFactor result }
+{
+    match scale {
+        5 => 2,
+        16 => 625,
+        256 => 390_625,
+        _ => 1,
+    }
+}
+
+/// An offset in units of the raw value.
+pub fn shift(offset: u32, scale: u32) -> u64
+    requires { IsScale scale }
+    ensures value { result ≡ offset * scale }
+    ensures bound { result ≤ 2 ^ 42 }
+{
+    offset as u64 * scale as u64
 }
 
 /// The whole number nearest to `size * 1800000000 / 2^31`, the greater one of two.

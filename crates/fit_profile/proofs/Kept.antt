@@ -10,6 +10,7 @@ use Rattle.std.proofs.Common.{option_map}
 use Rattle.std.specs.Prelude.{◌==◌, ◌&&◌}
 use Rattle.fit_profile.specs.declared.names.Described.{Described}
 use Rattle.fit_profile.specs.declared.names.Names.{Names}
+use Rattle.fit_profile.specs.inner.Keeps.{AreNamesAfter, AreSameNames}
 use Rattle.fit_record.specs.Environment.{DescribesNothing}
 use Rattle.fit_record.specs.Records.{IsRecord}
 use Rattle.fit_record.specs.declared.message.Record.TheVariants.{Define, Values as Data}
@@ -105,6 +106,13 @@ one-described e r v x index number before held now is some same set =
     set ∙ ap (λ h. cond (is_key x.key index number) x.texts h) same
     ∙ sym (described-placed v (defined_at e v.local) (Some x) index number before some) ∙ sym (ap (λ s. naming_after e s index number before) is)
 
+-- after a message that describes nothing the names are as before
+pub none-described : {A : Type 0} (e : Environment A) (r : Record A) (v : Values A) (index number : ℕ) (before : Naming) → r ≡ Data v
+    → None ≡ option_and_then (λ p. described p.definition v) (defined_at e v.local) → before ≡ naming_after e r index number before
+unfolding given
+none-described e r v index number before is none =
+    sym (described-placed v (defined_at e v.local) None index number before none) ∙ sym (ap (λ s. naming_after e s index number before) is)
+
 -- a message that describes nothing gives no name
 pub nothing-described : {A : Type 0} (v : Values A) (o : Option (Defined A)) (x : Described A) → option_and_then (λ p. description p.definition v) o ≡ None
     → Some x ≡ option_and_then (λ p. described p.definition v) o → ⊥
@@ -133,13 +141,12 @@ keeps-nothing e n items env naming namings none =
     (record { env_is = env; last_is = refl; naming_is = naming; namings_are = namings })
 
 pub keeps-same : {A : Type 0} (e e' : Environment A) (l : Last) (n n' : Names A) (xs : List (Record A)) → KeepsRecords e l n xs → e' ≡ e
-    → ((index number : ℕ) → naming_in n' index number ≡ naming_in n index number) → ((local : ℕ) → namings_in n' local ≡ namings_in n local)
-    → KeepsRecords e' l n' xs
-keeps-same e e' l n n' xs k env naming namings = record {
+    → AreSameNames n n' → KeepsRecords e' l n' xs
+keeps-same e e' l n n' xs k env names = record {
   env_is = env ∙ k.env_is;
   last_is = k.last_is;
-  naming_is = λ index number. naming index number ∙ k.naming_is index number;
-  namings_are = λ local. namings local ∙ k.namings_are local;
+  naming_is = λ index number. names.0 index number ∙ k.naming_is index number;
+  namings_are = λ local. names.1 local ∙ k.namings_are local;
 }
 
 -- the last values after one more record
@@ -150,25 +157,22 @@ last-now e l l' n xs now r t k view fits told last =
     ∙ last-step xs r ∙ ap (λ ys. last_of (r ∷ ys)) view
 
 keeps-after : {A : Type 0} (e e' : Environment A) (l l' : Last) (n n' : Names A) (xs : List (Record A)) (r : Record A) → KeepsRecords e l n xs
-    → e' ≡ learn e r → l' ≡ last_of (r ∷ xs)
-    → ((index number : ℕ) → naming_in n' index number ≡ naming_after e r index number (naming_in n index number))
-    → ((local : ℕ) → namings_in n' local ≡ namings_after (naming_in n) r local (namings_in n local)) → KeepsRecords e' l' n' (r ∷ xs)
-keeps-after e e' l l' n n' xs r k env last naming namings =
+    → e' ≡ learn e r → l' ≡ last_of (r ∷ xs) → AreNamesAfter e r n n' → KeepsRecords e' l' n' (r ∷ xs)
+keeps-after e e' l l' n n' xs r k env last names =
     let same_naming : naming_in n ≡ naming_of xs = λ i index number. k.naming_is index number i in
     record {
       env_is = env ∙ ap (λ x. learn x r) k.env_is;
       last_is = last;
-      naming_is = λ index number. naming index number ∙ ap₂ (λ x b. naming_after x r index number b) k.env_is (k.naming_is index number);
-      namings_are = λ local. namings local ∙ ap₂ (λ f b. namings_after f r local b) same_naming (k.namings_are local);
+      naming_is = λ index number. names.0 index number ∙ ap₂ (λ x b. naming_after x r index number b) k.env_is (k.naming_is index number);
+      namings_are = λ local. names.1 local ∙ ap₂ (λ f b. namings_after f r local b) same_naming (k.namings_are local);
     }
 
 pub keeps-next : {A : Type 0} (e e' : Environment A) (l l' : Last) (n n' : Names A) (items now : List (Record A)) (r : Record A)
-    → KeepsRecords e l n (reverse items) → reverse items ≡ now → e' ≡ learn e r → l' ≡ last_of (r ∷ now)
-    → ((index number : ℕ) → naming_in n' index number ≡ naming_after e r index number (naming_in n index number))
-    → ((local : ℕ) → namings_in n' local ≡ namings_after (naming_in n) r local (namings_in n local)) → KeepsRecords e' l' n' (reverse (items ++ (r ∷ [])))
-keeps-next e e' l l' n n' items now r k view env last naming namings =
+    → KeepsRecords e l n (reverse items) → reverse items ≡ now → e' ≡ learn e r → l' ≡ last_of (r ∷ now) → AreNamesAfter e r n n'
+    → KeepsRecords e' l' n' (reverse (items ++ (r ∷ [])))
+keeps-next e e' l l' n n' items now r k view env last names =
     subst (KeepsRecords e' l' n') (sym (reverse-append items (r ∷ [])))
-    (keeps-after e e' l l' n n' (reverse items) r k env (last ∙ ap (λ ys. last_of (r ∷ ys)) (sym view)) naming namings)
+    (keeps-after e e' l l' n n' (reverse items) r k env (last ∙ ap (λ ys. last_of (r ∷ ys)) (sym view)) names)
 
 -- bytes are those of the same record by what is known after the records and by what is kept of that
 pub kept-record : {A : Type 0} {e : Environment A} {l : Last} {n : Names A} {xs : List (Record A)} (now : List (Record A)) (r : Record A) (bytes : List ℕ)
@@ -201,7 +205,7 @@ keeps-last e l l' n items items' now v k view fits none last pushed =
     subst (λ xs. KeepsRecords e l' n (reverse xs)) (sym pushed)
     (keeps-next e e l l' n n items now (Data v) k view (ap (describe e) (sym none))
     (last-now e l l' n (reverse items) now (Data v) (tell e l (Data v)) k view fits refl last)
-    (λ index number. no-naming v (defined_at e v.local) index number (naming_in n index number) none) (λ local. refl))
+    (λ index number. no-naming v (defined_at e v.local) index number (naming_in n index number) none, λ local. refl))
 
 -- the same after any record that neither defines nor describes anything
 pub keeps-plain : {A : Type 0} (e : Environment A) (l l' : Last) (n : Names A) (items items' now : List (Record A)) (r : Record A)

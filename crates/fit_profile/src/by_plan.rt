@@ -77,12 +77,11 @@ fn times_of_values(
         Some (times_alone t.0 t.1) ≡ telling.tell env.now last (Data values.now)) }
     ensures nothing { IfSome result (λ _. described_by env.now values.now ≡ None) }
 {
-    let plan = plans.at(values.local)?;
-    let defined = env.defined(values.local)?;
-    if !plan.tells_more {
-        return Some(times_by(last, plan, &defined.definition, values));
+    let (definition, plan) = planned(env, plans, values.local)?;
+    if plan.tells_more {
+        return None;
     }
-    None
+    Some(times_by(last, plan, definition, values))
 }
 
 /// The times of a record of which no more is told, by the last ones before it: its own, and that of its header. None of a definition,

@@ -1,10 +1,9 @@
 //! What a stream takes in of a record: its environment, and the names and units of developer fields.
-ghost use Rattle.std.specs.Prelude.{◌≡◌, ℕ, OnOk, OnErr, IfOk, IsOk, IsSomeAnd, None, option_and_then};
+ghost use Rattle.std.specs.Prelude.{◌≡◌, OnOk, OnErr, IfOk, IsOk, IsSomeAnd, None, option_and_then};
 ghost use Rattle.fit_record.specs.Environment.{DescribesNothing, defined_at, described_by, learn};
 ghost use Rattle.fit_record.specs.Records.{DataFits, Fits};
 ghost use Rattle.fit_record.specs.declared.message.Record.TheVariants.{Define, Values as Data};
-ghost use Rattle.fit_profile.specs.Described.{naming_after, namings_after};
-ghost use Rattle.fit_profile.specs.inner.Keeps.{described, naming_in, namings_in};
+ghost use Rattle.fit_profile.specs.inner.Keeps.{AreNamesAfter, AreSameNames, described};
 
 use crate::names::{Described, Names, texts_of};
 use fit_record::{Env, MessageDef, Record, Values};
@@ -21,14 +20,8 @@ fn define(
     requires fits { Fits env.old record_.now }
     ensures learned { OnOk result (env.new ≡ learn env.old record_.now) }
     ensures env_kept { OnErr result (env.new ≡ env.old) }
-    ensures naming { OnOk result ((index number : ℕ) → naming_in names.new index number
-        ≡ naming_after env.old record_.now index number (naming_in names.old index number)) }
-    ensures namings { OnOk result ((local : ℕ) → namings_in names.new local
-        ≡ namings_after (naming_in names.old) record_.now local (namings_in names.old local)) }
-    ensures naming_kept { OnErr result ((index number : ℕ)
-        → naming_in names.new index number ≡ naming_in names.old index number) }
-    ensures namings_kept { OnErr result ((local : ℕ)
-        → namings_in names.new local ≡ namings_in names.old local) }
+    ensures names { OnOk result (AreNamesAfter env.old record_.now names.old names.new) }
+    ensures names_kept { OnErr result (AreSameNames names.old names.new) }
 {
     let namings = names.namings_of(definition)?;
     env.learn(record_)?;
@@ -71,14 +64,8 @@ fn describe(
     requires fits { Fits env.old record_.now }
     ensures learned { OnOk result (env.new ≡ learn env.old record_.now) }
     ensures env_kept { OnErr result (env.new ≡ env.old) }
-    ensures naming { OnOk result ((index number : ℕ) → naming_in names.new index number
-        ≡ naming_after env.old record_.now index number (naming_in names.old index number)) }
-    ensures namings { OnOk result ((local : ℕ) → namings_in names.new local
-        ≡ namings_after (naming_in names.old) record_.now local (namings_in names.old local)) }
-    ensures naming_kept { OnErr result ((index number : ℕ)
-        → naming_in names.new index number ≡ naming_in names.old index number) }
-    ensures namings_kept { OnErr result ((local : ℕ)
-        → namings_in names.new local ≡ namings_in names.old local) }
+    ensures names { OnOk result (AreNamesAfter env.old record_.now names.old names.new) }
+    ensures names_kept { OnErr result (AreSameNames names.old names.new) }
     // No memory is taken for a message that describes nothing.
     ensures free { DescribesNothing env.old record_.now → IsOk result }
 {
@@ -96,14 +83,8 @@ pub(crate) fn take_in(env: &mut Env, names: &mut Names, record_: &Record) -> Res
     requires { Fits env.old record_.now }
     ensures learned { OnOk result (env.new ≡ learn env.old record_.now) }
     ensures env_kept { OnErr result (env.new ≡ env.old) }
-    ensures naming { OnOk result ((index number : ℕ) → naming_in names.new index number
-        ≡ naming_after env.old record_.now index number (naming_in names.old index number)) }
-    ensures namings { OnOk result ((local : ℕ) → namings_in names.new local
-        ≡ namings_after (naming_in names.old) record_.now local (namings_in names.old local)) }
-    ensures naming_kept { OnErr result ((index number : ℕ)
-        → naming_in names.new index number ≡ naming_in names.old index number) }
-    ensures namings_kept { OnErr result ((local : ℕ)
-        → namings_in names.new local ≡ namings_in names.old local) }
+    ensures names { OnOk result (AreNamesAfter env.old record_.now names.old names.new) }
+    ensures names_kept { OnErr result (AreSameNames names.old names.new) }
     // No memory is taken for a message that describes nothing.
     ensures free { DescribesNothing env.old record_.now → IsOk result }
 {

@@ -20,10 +20,12 @@ mod time;
 mod told;
 
 pub use fit_names::{
-    Info, field_info, field_label, field_number, fixed, message_label, message_name, message_number,
+    Info, field_info, field_label, field_number, fixed, message_label, message_name,
+    message_number, value_of,
 };
 pub use fit_numbers::{
-    Fixed, Label, decimals_of, degrees, put_fixed, put_whole, utc_text, write_fixed,
+    Fixed, Label, decimals_of, degrees, factor_of, put_fixed, put_whole, shift, utc_text,
+    write_fixed,
 };
 pub use message::{FieldView, Message};
 pub use message_bytes::Taken;

@@ -38,7 +38,6 @@ use std::marker::Model;
 ///
 /// Its memory is that of `Global`: at an allocator of any size nothing says that a stream fits in
 /// memory.
-#[derive(Drop)]
 pub struct Stream {
     env: Env,
     plans: Plans,
@@ -48,6 +47,21 @@ pub struct Stream {
     is_new: bool,
     pushed: History<Record>,
     alloc: Global,
+}
+
+// A call wherever a stream is dropped: derived, all that it frees would be written out and proved there.
+impl Drop for Stream {
+    fn drop(self) {
+        let Stream {
+            env: _env,
+            plans: _plans,
+            last: _,
+            names: _names,
+            is_new: _,
+            pushed: _pushed,
+            alloc: _,
+        } = self;
+    }
 }
 
 impl Model for Stream {

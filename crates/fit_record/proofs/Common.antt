@@ -5,7 +5,7 @@ pub use Rattle.std.proofs.Common.{take, ltb, ltb-true, lt-ltb, ◌≢◌, ltb-fa
 pub use Rattle.std.proofs.Math.ListN.{length-set}
 pub use Rattle.std.proofs.Math.Nat.{suc-mul}
 pub use Rattle.std.proofs.lemmas.Bool.{true≢false, and_parts, and_from, and_left, leb-true, le-leb, lt-leb, or_right, eq-eqb, or_cases, or_left, cases_lt}
-pub use Rattle.std.proofs.lemmas.Bool.{eqb-true, cases_eq, or_from, and_right, eqb-false, and_cases, or_parts, not-true, not-false, both_ways}
+pub use Rattle.std.proofs.lemmas.Bool.{eqb-true, cases_eq, or_from, eqb-false, and_cases, or_parts, not-false, both_ways}
 pub use Rattle.std.proofs.lemmas.List.{length-replicate, append-nil, length-map, drop_more, drop-drop, take-append-drop, length-take-le, length-drop}
 pub use Rattle.std.proofs.lemmas.List.{get_or-set_other, drop_all, map_more, take_all, drop-take, take-take}
 pub use Rattle.std.proofs.lemmas.List.Folds.{list_any_at, list_any_more}
@@ -23,7 +23,7 @@ pub use Rattle.fit_base.specs.Numbers.{IsBytes, number_bytes, number, little_byt
 pub use Rattle.fit_base.specs.declared.items.Items.{Items}
 pub use Rattle.fit_base.specs.declared.number.Order.{Order}
 pub use Rattle.fit_base.specs.declared.number.Order.TheVariants.{Little, Big}
-pub use Rattle.fit_frame.specs.Header.{HeaderFits, header_bytes}
+pub use Rattle.fit_frame.specs.Header.{header_bytes}
 unfoldable pub use Rattle.fit_sum.specs.Checksum.{checksum}
 pub use Rattle.fit_record.specs.DefinitionLengths.{definition_length, dev_length}
 pub use Rattle.fit_record.specs.Environment.{Environment, defined_at, learn, dev_defs, dev_code, defined_by, describe, description, first_items}

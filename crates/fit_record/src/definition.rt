@@ -136,7 +136,7 @@ fn all_same(a: &[FieldDef], b: &[FieldDef]) -> bool
 }
 
 /// Whether two lists of fields are the same. Where they differ, the last one mostly does, so it is compared first.
-fn same_fields(a: &[FieldDef], b: &[FieldDef]) -> bool
+pub fn same_fields(a: &[FieldDef], b: &[FieldDef]) -> bool
     ensures { IsTrue result → a.now ≡ b.now }
 {
     a.last() == b.last() && all_same(a, b)

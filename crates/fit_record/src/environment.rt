@@ -77,6 +77,7 @@ impl<A: Allocator> Env<A> {
     }
 
     /// The definition of a local message type. One of 16 or more has none.
+    #[inline(always)]
     pub fn definition(&self, local: u8) -> Option<&MessageDef<A>>
         ensures { option_copied result ≡ definition_at self.now local }
     {

@@ -16,7 +16,7 @@ mod message_bytes;
 mod rooms;
 mod unfinished;
 
-pub use definition::{DevDef, FieldDef, MessageDef, body_length};
+pub use definition::{DevDef, FieldDef, MessageDef, body_length, same_fields};
 pub use environment::{Defined, Env};
 pub use file::{CHAIN_LIMIT, FitFile};
 pub use fits::ShapeFault;

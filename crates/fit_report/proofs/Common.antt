@@ -1,13 +1,13 @@
 -- The names of std, of the crates below and of this crate's specs that several proofs use: each proof takes them from here.
 pub use Rattle.std.proofs.Common.{◌≡◌, ℕ, suc, ◌<◌, List, [], ◌∷◌, ◌++◌, length, take, drop, get_or, reverse, Option, Some, None, Result, Ok, Err}
-pub use Rattle.std.proofs.Common.{refl, sym, ap, ◌∙◌, subst, append_assoc, arith, ◌+◌, ◌≤◌, false, IsOk, IsErr, ◌↔◌, length-append, Bool, map, ◌⊎◌}
-pub use Rattle.std.proofs.Common.{inl, inr, ◌-◌, ◌^◌, min, true}
-pub use Rattle.std.proofs.Math.Seq.{drop-cons, take-append-add, take-add, take-length}
+pub use Rattle.std.proofs.Common.{refl, sym, ap, ◌∙◌, subst, append_assoc, arith, ◌+◌, ◌≤◌, false, IsOk, IsErr, ◌↔◌, length-append, map, ◌⊎◌}
+pub use Rattle.std.proofs.Common.{inl, inr, ◌-◌}
+pub use Rattle.std.proofs.Math.Seq.{drop-cons, take-append-add, take-add}
 pub use Rattle.std.proofs.lemmas.List.{append-nil, take-append-drop, reverse-reverse, reverse-append, get_or-append-add, length-drop, length-take}
 pub use Rattle.std.proofs.lemmas.List.{get_or-drop, length-reverse, map-append}
 pub use Rattle.std.proofs.lemmas.Result.{err_from_is_err_and}
 pub use Rattle.std.specs.Global.{Global}
-pub use Rattle.std.specs.Io.KnownBytes.{Appends, Consumes, IsAtEnd, Keeps}
+pub use Rattle.std.specs.Io.KnownBytes.{Appends, Consumes, IsAtEnd}
 pub use Rattle.std.specs.Prelude.{OnOk, flat_map}
 pub use Rattle.fit_chain.proofs.Bounds.{short_bytes}
 pub use Rattle.fit_chain.proofs.Telling.{least_for, quiet_for}
@@ -28,5 +28,5 @@ pub use Rattle.fit_report.specs.Heard.{Lines, text_of, hear, latest_records, Ski
 pub use Rattle.fit_report.specs.Reports.{Channel, Reports, ReportsChain, HasTold, Tells, report_fault, HasHeard, TextFailsIn, channel}
 pub use Rattle.fit_report.specs.declared.fault.ReportFault.{ReportFault}
 pub use Rattle.fit_report.specs.declared.fault.ReportFault.TheVariants.{Decode, NoMemory, Write}
-pub use Rattle.fit_report.specs.Telling.{Stands, Stops, Passes, TellsMore, ToldSoFar}
+pub use Rattle.fit_report.specs.Telling.{Stands, Stops, TellsMore, ToldSoFar}
 pub use Rattle.fit_report.specs.inner.Passing.{Puts}

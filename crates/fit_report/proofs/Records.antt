@@ -1,10 +1,13 @@
--- The records that are heard, and the count of events.
+-- The records that are heard, what is known by them, and the count of events.
 use Rattle.fit_report.proofs.Common.{◌≡◌, ℕ, ◌+◌, ◌<◌, ◌≤◌, List, [], ◌∷◌, ◌++◌, length, map, reverse, refl, sym, ap, ◌∙◌, subst, arith, append_assoc}
 use Rattle.fit_report.proofs.Common.{length-append, ◌⊎◌, inl, inr, flat_map, append-nil, length-reverse, map-append, reverse-append, reverse-reverse, FitFile}
 use Rattle.fit_report.proofs.Common.{Record, body, summed, file_bytes, chain_bytes, Event, header, item, file_end, file_events, progress_events, AreEvents}
 use Rattle.fit_report.proofs.Common.{Progress, at_header, at_data, progress_bytes, IsUnfinished, short_bytes, latest_records}
+use Rattle.std.proofs.lemmas.List.Sums.{fold_push}
+use Rattle.fit_chain.specs.Events.{known_after, known_next}
 use Rattle.fit_frame.specs.declared.header.Header.{Header}
 use Rattle.fit_frame.specs.Header.{header_bytes}
+use Rattle.fit_record.proofs.RecordLists.{learn_all-append}
 use Rattle.fit_record.specs.Environment.{Environment, empty_environment, learn, learn_all}
 use Rattle.fit_record.specs.Records.{AllFit, Fits, record_bytes, records_bytes}
 use Rattle.fit_report.specs.Laws.{HeardAreFew, HeardRecordsFit}
@@ -127,3 +130,20 @@ heard_fits {A} fs (at_data h n records part) heard r open_ is =
 
 pub heard_records_fit : {A : Type 0} → HeardRecordsFit A
 heard_records_fit heard r (bytes, viable, (fs, g, come, is)) = heard_fits fs g heard r come.next (sym (reverse-reverse (item r ∷ heard)) ∙ ap reverse is)
+
+-- ---- what is known
+
+-- after events the records of the file that was begun last are learned
+pub known_heard : {A : Type 0} (heard : List (Event A)) → known_after (reverse heard) ≡ learn_all empty_environment (reverse (latest_records heard))
+known_heard [] = refl
+known_heard {A} (x ∷ heard) =
+    ap known_after (reverse-append (x ∷ []) heard) ∙ fold_push known_next empty_environment (reverse heard) x
+    ∙ ap (λ e. known_next e x) (known_heard heard) ∙ next x
+  where
+    next : (x : Event A) → known_next (learn_all empty_environment (reverse (latest_records heard))) x
+        ≡ learn_all empty_environment (reverse (latest_records (x ∷ heard)))
+    next (header h n) = refl
+    next (item r) =
+        let before = latest_records heard in
+        sym (ap (learn_all empty_environment) (reverse-append (r ∷ []) before) ∙ learn_all-append empty_environment (reverse before) (r ∷ []))
+    next file_end = refl

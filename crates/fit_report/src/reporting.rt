@@ -1,5 +1,5 @@
 //! Passes the events of a source's bytes to a reporter, and its text to a sink.
-ghost use Rattle.std.specs.Prelude.{◌≡◌, ℕ, [], List, false, OnOk, Some, flat_map, reverse};
+ghost use Rattle.std.specs.Prelude.{◌≡◌, ℕ, [], List, None, false, OnOk, Some, flat_map, reverse};
 ghost use Rattle.std.specs.Global.{Global};
 ghost use Rattle.fit_base.specs.Numbers.{IsBytes};
 ghost use Rattle.fit_record.specs.declared.file.FitFile.{FitFile};
@@ -12,20 +12,22 @@ use fit_decode::{Fault, PIECE_SIZE, Source};
 use fit_encode::Sink;
 use std::alloc::Global;
 
-/// Takes pieces to the end of the input or the first fault, and tells each.
+/// Takes pieces to the end of the input or the first fault, and tells each. Nothing was told before.
+#[inline(always)]
 fn tell_pieces<S: Source, K: Sink, R: Report>(
-    alloc: Global,
+    telling: &mut Telling,
     source: &mut S,
     sink: &mut K,
     reporter: &mut R,
 ) -> Result<(), ReportFault>
-    requires { R.has_heard reporter.old [] }
+    requires fresh { telling.old ≡ record
+        { seen = record { bytes = []; refusal = None }; written = 0 } }
+    requires heard { R.has_heard reporter.old [] }
     ensures reports { Reports R.has_heard reporter.new R.line
         (channel S.remaining S.has_failed source.old source.new)
         (channel K.contents K.has_failed sink.old sink.new) result }
     ensures works { OnOk result (K.has_failed sink.old ≡ false → K.has_failed sink.new ≡ false) }
 {
-    let mut telling = Telling::new(alloc);
     let mut place = 0;
     let mut buffer = [0u8; PIECE_SIZE];
     'pieces: loop {
@@ -72,5 +74,6 @@ pub fn report<S: Source, K: Sink, R: Report>(
     // A sink that had not failed has not failed after a report that succeeds.
     ensures works { OnOk result (K.has_failed sink.old ≡ false → K.has_failed sink.new ≡ false) }
 {
-    tell_pieces(alloc, source, sink, reporter)
+    let mut telling = Telling::new(alloc);
+    tell_pieces(&mut telling, source, sink, reporter)
 }

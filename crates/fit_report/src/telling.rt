@@ -8,7 +8,7 @@ ghost use Rattle.fit_chain.specs.Events.{Event as Told, AreEvents};
 ghost use Rattle.fit_chain.specs.Memory.{IsAny, MayLackMemoryIn};
 ghost use Rattle.fit_chain.specs.Progress.{HasCome, Progress};
 ghost use Rattle.fit_decode.specs.Answers.{fed};
-ghost use Rattle.fit_report.specs.Heard.{Skips};
+ghost use Rattle.fit_report.specs.Heard.{AreHeard, Skips, hear, line_of};
 ghost use Rattle.fit_report.specs.Reports.{channel};
 ghost use Rattle.fit_report.specs.Telling.{Passes, Stands};
 ghost use Rattle.fit_report.specs.inner.Passing.{Puts};
@@ -186,6 +186,24 @@ fn tell_skipped<K: Sink, R: Report>(
     Ok(used)
 }
 
+/// Tells an event, and frees it.
+#[inline(always)]
+fn tell_event<R: Report>(
+    reporter: &mut R,
+    event: Event,
+    text: &mut Vec<u8>,
+) -> Result<(), AllocError>
+    requires { (heard : List (Told Global)) × R.has_heard reporter.old heard
+        × AreHeard (hear event heard) }
+    ensures heard { OnOk result ((heard : List (Told Global)) → R.has_heard reporter.old heard
+        → AreHeard (hear event heard) → R.has_heard reporter.new (hear event heard)) }
+    ensures text { OnOk result ((heard : List (Told Global)) → R.has_heard reporter.old heard
+        → AreHeard (hear event heard)
+        → text.new.items ≡ text.old.items ++ line_of R.line heard event) }
+{
+    reporter.tell(&event, text)
+}
+
 /// Feeds a piece up to its first event, and tells that. Returns how many bytes were used.
 fn tell_next<K: Sink, R: Report>(
     decoder: &mut Decoder,
@@ -212,7 +230,7 @@ fn tell_next<K: Sink, R: Report>(
         return Ok(used);
     }
     text.clear();
-    let Ok(()) = reporter.tell(&event, text) else {
+    let Ok(()) = tell_event(reporter, event, text) else {
         return Err(ReportFault::NoMemory);
     };
     put_text(sink, text.as_slice(), written)?;

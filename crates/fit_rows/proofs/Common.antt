@@ -1,12 +1,12 @@
 -- The names of std, of the crates below and of this crate's specs that several proofs use: each proof takes them from here.
 pub use Rattle.std.proofs.Common.{◌≡◌, ◌∙◌, ◌++◌, ◌+◌, length, take, drop, true, false, sym, ap, refl, [], ◌∷◌, arith, subst, inl, inr, ◌≤◌, ap₂, append_assoc}
-pub use Rattle.std.proofs.Common.{Bool, map, get_or, OnOk}
+pub use Rattle.std.proofs.Common.{Bool, map, get_or}
 pub use Rattle.std.proofs.lemmas.Bool.{cases_Bool}
 pub use Rattle.std.proofs.lemmas.List.{length-map, map-append, take_more, reverse-append}
 pub use Rattle.std.proofs.lemmas.Option.{none-some}
 pub use Rattle.std.proofs.lemmas.Result.{on_ok_weaker}
 pub use Rattle.std.specs.Global.{Global}
-pub use Rattle.std.specs.Prelude.{flat_map, option_and_then, zip, IsSomeAnd, ◌||◌, not}
+pub use Rattle.std.specs.Prelude.{flat_map, option_and_then, zip, IsSomeAnd, ◌||◌}
 unfoldable pub use Rattle.std.specs.Str.{is_utf8, chars}
 pub use Rattle.csv.specs.Writing.{default_writer, field_text, needs_quotes}
 unfoldable pub use Rattle.csv.specs.Writing.{escaped, fields_text, is_blank}

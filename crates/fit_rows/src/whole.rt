@@ -64,8 +64,7 @@ fn likely_message<'a>(
     requires { AreCurrent message_key maker.old.templates before.now }
     ensures { AreCurrent message_key maker.new.templates before.now }
 {
-    let (local, _) = likely_short_number(text.strip_prefix(b"data,")?);
-    let local = local?;
+    let local = likely_short_number(text.strip_prefix(b"data,")?)?;
     let defined = before.env().defined(local)?;
     maker.keep_template(before, local, defined).ok()?;
     let template = maker.templates.get(local)?;

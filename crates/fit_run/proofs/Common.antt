@@ -5,7 +5,7 @@ pub use Rattle.std.proofs.Common.{length-append, length-take-le, ◌==◌, true,
 pub use Rattle.std.proofs.Common.{string_bytes}
 pub use Rattle.std.proofs.lemmas.List.{length-reverse, reverse-append, take-append-le, get_or_append_left, append_cancel_left, reverse-reverse}
 pub use Rattle.std.specs.Global.{Global}
-pub use Rattle.std.specs.Io.KnownBytes.{Consumes, Appends, IsAtEnd, Keeps}
+pub use Rattle.std.specs.Io.KnownBytes.{Consumes, Appends, IsAtEnd}
 pub use Rattle.std.specs.Prelude.{decimal, flat_map, IfSome}
 pub use Rattle.clap.specs.Words.{App, HasKind, IsAmong, Text, fault_of, is_simple_and_free, kind_of, takes, matches_of, first_of, first_value}
 pub use Rattle.clap.specs.Words.{found_of, is_simple, app_of, HasMatchesOf, fault_of as clap_faults}

@@ -5,7 +5,7 @@ pub use Rattle.std.proofs.lemmas.Bool.{ne_eqb}
 pub use Rattle.std.proofs.lemmas.List.{length-map, map-append, take_more, reverse-append, take_all}
 pub use Rattle.std.proofs.lemmas.Result.{on_ok_weaker}
 pub use Rattle.std.specs.Global.{Global}
-pub use Rattle.std.specs.Prelude.{flat_map, option_and_then, zip, IsSomeAnd, ◌||◌}
+pub use Rattle.std.specs.Prelude.{flat_map, option_and_then, zip, ◌||◌}
 pub use Rattle.fit_base.specs.declared.items.Items.{Items}
 pub use Rattle.fit_chain.specs.Events.{Event, file_events, header, item, file_end}
 pub use Rattle.fit_profile.specs.Described.{Naming, namings_at}
@@ -14,7 +14,7 @@ pub use Rattle.fit_profile.specs.Names.{message_label, field}
 pub use Rattle.fit_profile.specs.Times.{time}
 pub use Rattle.fit_record.specs.Environment.{defined_at, dev_defs}
 pub use Rattle.fit_record.specs.Files.{body}
-pub use Rattle.fit_record.specs.Records.{DataFits, Fits, dev_layout, layout, HaveShape}
+pub use Rattle.fit_record.specs.Records.{dev_layout, layout}
 pub use Rattle.fit_record.specs.declared.definition.DevDef.{DevDef}
 pub use Rattle.fit_record.specs.declared.definition.FieldDef.{FieldDef}
 pub use Rattle.fit_record.specs.declared.environment.Defined.{Defined}

@@ -41,7 +41,7 @@ pub use Rattle.fit_record.specs.HeaderByte.{is_definition, has_reserved_bit, loc
 pub use Rattle.fit_record.specs.Records.{order_at, message_size, data_header, DataHeaderFits, data_bytes, record_bytes, Fits, architecture, field_bytes}
 pub use Rattle.fit_record.specs.Records.{dev_field_bytes, dev_part, definition_header, definition_bytes, DefinitionFits, layout, dev_layout, sizes, DataFits}
 pub use Rattle.fit_record.specs.Records.{HaveShape, AllFit, records_bytes, IsRecord, body_length}
-pub use Rattle.fit_record.specs.Rooms.{can_fill, fills, has_length, can_fill_with, can_fill_from, others_have}
+pub use Rattle.fit_record.specs.Rooms.{can_fill, can_fill_with, can_fill_from, others_have}
 pub use Rattle.fit_record.specs.Sizes.{HasNoFields, HeadsEmptyMessage, entry_count, environment_size}
 pub use Rattle.fit_record.specs.Unfinished.{can_carry, CanCarry, finishes, can_complete, can_complete_dev, CanComplete, fields_part, dev_fields_part}
 pub use Rattle.fit_record.specs.Unfinished.{size_so_far, can_complete_front}

@@ -26,7 +26,6 @@ pub mod WholeMessage
 pub mod ReadDefinitions
 pub mod SkippedRecords
 mod PlainMessages
-mod Exits
 pub mod Splits
 pub mod RecordFronts
 pub mod RecordsInProgress

@@ -2,13 +2,11 @@
 ghost use Rattle.std.specs.Prelude.{◌≡◌, ℕ, List, ◌+◌, ◌*◌, ◌<◌, ◌≤◌, IfSome, IsSomeAnd, None, OnErr, OnOk, length};
 ghost use Rattle.fit_record.specs.declared.message.Record.TheVariants.{Define, Values as Data};
 ghost use Rattle.fit_record.specs.Environment.{learn};
-ghost use Rattle.fit_record.specs.MessageBytes.{message_in};
-ghost use Rattle.fit_record.specs.Records.{DefinitionFits, message_size};
-ghost use Rattle.fit_record.specs.Sound.{IsSound};
+ghost use Rattle.fit_record.specs.Records.{DefinitionFits};
 ghost use Rattle.fit_step.specs.Skipping.{HasMessage};
 ghost use Rattle.fit_step.specs.declared.read_definition.Front.{Front as Fronts};
 ghost use Rattle.fit_step.specs.inner.Definitions.{AreFields, Begins, definition_of};
-ghost use Rattle.fit_step.specs.inner.Whole.{StandsWhole};
+ghost use Rattle.fit_step.specs.inner.Whole.{IsPlain, StandsWhole};
 
 use crate::read_definition::{Front, definition_bytes, with_fields};
 use crate::repeated::is_known;
@@ -48,15 +46,7 @@ pub(crate) fn plain_message<'a, A: Allocator>(
     in_progress: &Option<Record<A>>,
     piece: &'a [u8],
 ) -> Option<MessageBytes<'a, A>>
-    ensures idle { IfSome result (λ m. in_progress.now ≡ None) }
-    ensures sound { IfSome result (λ m. IsSound m.defined.now) }
-    ensures size { IfSome result (λ m. length m.body.now ≡ message_size m.defined.now) }
-    ensures stands { IfSome result (λ m. StandsWhole env.now room piece.now
-        (Data (message_in m)) (1 + length m.body.now)) }
-    ensures left { IfSome result (λ m. 1 + length m.body.now + 6 ≤ room) }
-    ensures message { IfSome result (λ m.
-        HasMessage env.now piece.now (1 + length m.body.now)) }
-    ensures learned { IfSome result (λ m. learn env.now (Data (message_in m)) ≡ env.now) }
+    ensures plain { IfSome result (IsPlain env.now room in_progress.now piece.now) }
     ensures whole { in_progress.now ≡ None → (size : ℕ) → HasMessage env.now piece.now size
         → size + 6 ≤ room → IsSomeAnd result (λ m. 1 + length m.body.now ≡ size) }
 {

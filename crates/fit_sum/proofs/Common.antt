@@ -7,9 +7,9 @@ pub use Rattle.std.proofs.Math.Seq.{take-suc}
 pub use Rattle.std.proofs.lemmas.List.{take_all, take-append-drop, append-nil}
 pub use Rattle.std.proofs.lemmas.List.Folds.{concat-append}
 pub use Rattle.std.proofs.lemmas.Nat.{xor_lt, xor_block, xor_comm, xor_shr, xor_mod, pow_pos, shr_split, div-add-mod', mod_below}
-pub use Rattle.std.proofs.lemmas.Nat.{from_le_bytes-to_le_bytes_8, and_mask}
+pub use Rattle.std.proofs.lemmas.Nat.{from_le_bytes-to_le_bytes_8}
 pub use Rattle.std.specs.Int.{to_le_bytes, w64}
-pub use Rattle.std.specs.Int.Bits.{bit_xor, xor_assoc, xor_zero_l, xor_zero_r, bit_and}
+pub use Rattle.std.specs.Int.Bits.{bit_xor, xor_assoc, xor_zero_l, xor_zero_r}
 pub use Rattle.std.specs.List.{concat}
 pub use Rattle.std.specs.Prelude.{flat_map, if◌then◌else◌}
 pub use Rattle.std.specs.Simd.{first_chunks}

@@ -1,7 +1,6 @@
 -- The names of std, of the crates below and of this crate's specs that several proofs use: each proof takes them from here.
 pub use Rattle.std.proofs.Common.{◌≡◌, ◌∙◌, ◌++◌, ◌+◌, length, take, drop, true, false, sym, ap, refl, [], ◌∷◌, arith, subst, inl, inr, suc, ◌≤◌, ap₂, ◌^◌, ◌-◌}
 pub use Rattle.std.proofs.Common.{append_assoc, eq-eqb, Bool, negsuc, map, get_or, add-one, ◌*◌, ◌/◌, ◌%◌, ◌≢◌}
-pub use Rattle.std.proofs.Math.Seq.{take-append-add}
 pub use Rattle.std.proofs.lemmas.Bool.{cases_Bool, lt-ltb, ne_eqb}
 pub use Rattle.std.proofs.lemmas.List.{take-append-drop, take-take, reverse-append, length-take}
 pub use Rattle.std.proofs.lemmas.Result.{on_ok_weaker}
@@ -48,7 +47,6 @@ unfoldable pub use Rattle.fit_texts.specs.InstantText.{date_after, date_in_year}
 pub use Rattle.fit_table.specs.Table.{table_of, amount_text, value_text, degrees_text, table_line, table_record_rows, table_message_rows, table_row, table_rows}
 pub use Rattle.fit_table.specs.Table.{table_event_rows}
 unfoldable pub use Rattle.fit_table.specs.Table.{table_events_rows, table_files_rows, table_records_rows}
-pub use Rattle.fit_table.specs.declared.columns.Column.{Column}
 pub use Rattle.fit_texts.specs.Minutes.{seconds_text}
-pub use Rattle.fit_table.specs.inner.TableCells.{shown_text, rows_in, PutsCell, AddsCell, effort_cells, place_cells}
-pub use Rattle.fit_table.specs.inner.TableColumns.{column_fields, ArePlaces, AreInBytes, TellsAmounts, IsColumn, IsFirst, IsKnown, IsPlaced, items_at, slots}
+pub use Rattle.fit_table.specs.inner.TableCells.{shown_text, PutsCell, AddsCell, effort_cells, place_cells}
+pub use Rattle.fit_table.specs.inner.TableColumns.{column_fields, ArePlaces, AreInBytes, TellsAmounts, IsColumn, IsFirst, IsPosition, items_at, slots}

@@ -1,11 +1,9 @@
 -- The texts of amounts, by the scale of the profile.
-use Rattle.fit_table.proofs.Common.{◌≡◌, refl, ap, ap₂, option_and_then, Items, FieldDef, MessageDef, Values, Fixed, fixed_text, Meaning, field, IsScale}
-use Rattle.fit_table.proofs.Common.{first_field, IsValueOf, first_number, known_number, amount_text, value_text, shown_text}
+use Rattle.fit_table.proofs.Common.{◌≡◌, refl, ap, ap₂, option_and_then, Fixed, fixed_text, Meaning, IsScale, IsValueOf, amount_text, shown_text}
 use Rattle.std.proofs.Common.{ℕ, Option, Some, None}
 use Rattle.std.specs.Prelude.{option_map, ℤ, pos}
 use Rattle.fit_profile.specs.Values.{IsAmount}
 use Rattle.fit_cells.proofs.NumberFacts.{is_scaled}
-use Rattle.fit_texts.proofs.ProfileScales.{known_scale}
 
 -- the text of a value
 pub value_shown : (raw : Option ℤ) (meaning : Option Meaning) (value : Option Fixed) → ((m : Meaning) → meaning ≡ Some m → IsScale m.scale)
@@ -26,15 +24,3 @@ amount_shown scale None None known is = refl
 amount_shown scale None (Some v) known is = absurd is
 amount_shown scale (Some n) None known is = absurd is
 amount_shown scale (Some n) (Some v) known is = ap Some (ap₂ fixed_text (is_scaled (pos n) v.value scale 0 known is.1) is.0)
-
-by_field : {A : Type 0} (global number : ℕ) (f : Option (FieldDef × Items A)) (value : Option Fixed)
-    → IsValueOf (option_and_then (λ f. option_and_then (λ raw. option_map (λ m. (raw, m)) (field global number)) (first_number f.0 f.1)) f) value
-    → shown_text value ≡ option_map (λ (x : ℤ × Meaning). amount_text x.0 x.1.scale x.1.offset)
-    (option_and_then (λ f. option_and_then (λ raw. option_map (λ m. (raw, m)) (field global number)) (first_number f.0 f.1)) f)
-by_field global number None value is = value_shown None None value (λ m e. cc e) is
-by_field global number (Some f) value is = value_shown (first_number f.0 f.1) (field global number) value (known_scale global number) is
-
--- the text of a value of a message
-pub shown_value : {A : Type 0} (d : MessageDef A) (v : Values A) (number : ℕ) (value : Option Fixed) → IsValueOf (known_number d v number) value
-    → shown_text value ≡ value_text d v number
-shown_value d v number value is = by_field d.global number (first_field d.fields v.fields number) value is

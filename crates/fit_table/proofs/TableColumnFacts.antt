@@ -3,8 +3,8 @@ use Rattle.fit_table.proofs.Common.{◌≡◌, ◌∙◌, ◌+◌, ◌-◌, ◌/
 use Rattle.fit_table.proofs.Common.{[], ◌∷◌, ◌||◌}
 use Rattle.fit_table.proofs.Common.{arith, add-one, eq-eqb, inl, inr, ◌&&◌, not, nat_lt, option_and_then, slice_get, IsSomeAnd, Global, cases_Bool, ne_eqb}
 use Rattle.fit_table.proofs.Common.{Items, Order, base_type, item_width, twos_complement, FieldDef, MessageDef, Values, first_field, field, Meaning}
-use Rattle.fit_table.proofs.Common.{first_number}
-use Rattle.fit_table.proofs.Common.{valid_number, item_text, IsFormOf, amount_text, value_text, Column, IsColumn, IsFirst, IsKnown, IsPlaced, items_at, slots}
+use Rattle.fit_table.proofs.Common.{first_number, known_number}
+use Rattle.fit_table.proofs.Common.{valid_number, item_text, IsFormOf, amount_text, value_text, IsFirst, items_at, slots}
 use Rattle.fit_table.proofs.Common.{take-take}
 use Rattle.fit_table.proofs.Common.{lt-ltb, degrees_text, take-append-drop, length-take, IsBytes}
 use Rattle.std.proofs.Common.{◌==◌, ◌<◌, ℕ, List, Option, Some, None, ◌⊎◌}
@@ -12,18 +12,18 @@ use Rattle.std.proofs.Math.Seq.{drop-cons}
 use Rattle.std.proofs.Math.ListN.{length-drop}
 use Rattle.std.proofs.lemmas.List.Sums.{sum_by-cons}
 use Rattle.std.specs.List.{list_any}
-use Rattle.std.specs.Prelude.{option_map, ℤ, pos, if◌then◌else◌, IfSome}
+use Rattle.std.specs.Prelude.{option_map, ℤ, pos, if◌then◌else◌}
 use Rattle.fit_base.proofs.ByteLists.{IsBytes-back, IsBytes-front}
 use Rattle.fit_base.specs.Numbers.{number}
 use Rattle.fit_base.specs.declared.code.Class.TheVariants.{Signed, Unsigned}
 use Rattle.fit_record.specs.ReadMessages.{field_from, fields_from, numbers_of}
 use Rattle.fit_record.specs.Records.{sizes}
 use Rattle.fit_numbers.specs.FixedText.{fixed_text}
+use Rattle.fit_cells.proofs.ClassFacts.{code_width}
 use Rattle.fit_cells.specs.declared.form.NumberForm.{NumberForm}
 use Rattle.fit_table.specs.Degrees.{degrees_of}
-use Rattle.fit_table.specs.declared.columns.Column.TheVariants.{Absent, At}
-use Rattle.fit_table.specs.declared.columns.Place.{Place}
-use Rattle.fit_table.specs.inner.TableColumns.{HaveNone, held_number}
+use Rattle.fit_table.specs.declared.columns.Spot.{Spot}
+use Rattle.fit_table.specs.inner.TableColumns.{HasItem, HaveNone, IsIn, IsSpot, IsSpotAt, degrees_of_first, held_number, meant_number}
 use Rattle.fit_texts.proofs.ItemFacts.{lone_below}
 
 -- ---- the first field of a number
@@ -66,33 +66,32 @@ sizes_left fields i d h =
     ap (λ fs. sizes (slots fs)) (drop-cons fields i d h) ∙ sum_by-cons (λ (g : ℕ × ℕ). g.1) (f.code, f.size) (slots (drop (suc i) fields))
     ∙ ap (λ k. f.size + sizes (slots (drop k fields))) (sym (add-one i))
 
--- the column of a field that is the first of its number
-pub first_column : (fields : List FieldDef) (number offset : ℕ) (f : FieldDef) (column : Column)
+-- the spot of a field that is the first of its number
+pub first_spot : (fields : List FieldDef) (number offset : ℕ) (f : FieldDef) (spot : Option Spot)
     → ((o : Order) (bytes : List ℕ) → first_in o fields bytes number ≡ Some (f, items_of o f (drop offset bytes)))
-    → f.number ≡ number → offset + f.size ≤ sizes (slots fields) → IsPlaced offset f column → IsColumn fields number column
-first_column fields number offset f Absent finds is within placed = λ o bytes. ap held_number (finds o bytes) ∙ placed o (take f.size (drop offset bytes))
-first_column fields number offset f (At p) finds is within placed = record {
-  finds = subst (λ (k : ℕ). (o : Order) (bytes : List ℕ) → first_in o fields bytes number ≡ Some (p.field, items_of o p.field (drop k bytes))) (sym placed.0)
+    → f.number ≡ number → offset + f.size ≤ sizes (slots fields) → IsSpotAt offset f spot → IsSpot fields number spot
+first_spot fields number offset f None finds is within placed = λ o bytes. ap held_number (finds o bytes) ∙ placed o (take f.size (drop offset bytes))
+first_spot fields number offset f (Some s) finds is within placed = record {
+  finds = subst (λ (k : ℕ). (o : Order) (bytes : List ℕ) → first_in o fields bytes number ≡ Some (s.field, items_of o s.field (drop k bytes))) (sym placed.0)
       (subst (λ (g : FieldDef). (o : Order) (bytes : List ℕ) → first_in o fields bytes number ≡ Some (g, items_of o g (drop offset bytes)))
       (sym placed.1) finds);
   numbered = ap (λ (g : FieldDef). g.number) placed.1 ∙ is;
   within = omega (arith, within, placed.0, ap (λ (g : FieldDef). g.size) placed.1);
-  known = placed.2;
+  item = subst HasItem (sym placed.1) placed.2;
 }
 
-pub first_columns : (fields : List FieldDef) (number offset : ℕ) (f : FieldDef) (column : Option Column)
-    → ((o : Order) (bytes : List ℕ) → first_in o fields bytes number ≡ Some (f, items_of o f (drop offset bytes)))
-    → f.number ≡ number → offset + f.size ≤ sizes (slots fields) → IfSome column (IsPlaced offset f) → IfSome column (IsColumn fields number)
-first_columns fields number offset f None finds is within placed = tt
-first_columns fields number offset f (Some column) finds is within placed = first_column fields number offset f column finds is within placed
+-- it is in the bytes of a message that are long enough
+pub is_in : (fields : List FieldDef) (number : ℕ) (s : Spot) (bytes : List ℕ) → IsFirst fields number s → sizes (slots fields) ≤ length bytes → IsIn s bytes
+is_in fields number s bytes first within = record { item = first.item; within = omega (arith, first.within, within) }
 
 -- ---- the first item of a field
 
-some_items : (w size : ℕ) → (w ≡ 1) ⊎ (w ≡ 2) ⊎ (w ≡ 4) → w ≤ size → size / w ≡ suc (size / w - 1)
-some_items w size small room = elim small [
+some_items : (w size : ℕ) → (w ≡ 1) ⊎ (w ≡ 2) ⊎ (w ≡ 4) ⊎ (w ≡ 8) → w ≤ size → size / w ≡ suc (size / w - 1)
+some_items w size known room = elim known [
   | inl e ↦ ap (λ (k : ℕ). size / k) e ∙ omega (arith, e, room) ∙ ap (λ (k : ℕ). suc (size / k - 1)) (sym e)
   | inr (inl e) ↦ ap (λ (k : ℕ). size / k) e ∙ omega (arith, e, room) ∙ ap (λ (k : ℕ). suc (size / k - 1)) (sym e)
-  | inr (inr e) ↦ ap (λ (k : ℕ). size / k) e ∙ omega (arith, e, room) ∙ ap (λ (k : ℕ). suc (size / k - 1)) (sym e)
+  | inr (inr (inl e)) ↦ ap (λ (k : ℕ). size / k) e ∙ omega (arith, e, room) ∙ ap (λ (k : ℕ). suc (size / k - 1)) (sym e)
+  | inr (inr (inr e)) ↦ ap (λ (k : ℕ). size / k) e ∙ omega (arith, e, room) ∙ ap (λ (k : ℕ). suc (size / k - 1)) (sym e)
 ]
 
 one_of : (f : FieldDef) (o : Order) (w : ℕ) (bytes : List ℕ) → item_width f.code f.size ≡ w → f.size / w ≡ suc (f.size / w - 1) → w ≤ f.size
@@ -102,17 +101,14 @@ one_of f o w bytes own some room =
     ∙ ap (λ (n : ℕ). option_and_then (valid_number f.code w) (slice_get (numbers_of o w n (take f.size bytes)) 0)) some
     ∙ ap (λ (b : List ℕ). valid_number f.code w (number o b)) (take-take w f.size bytes room)
 
--- the number of the first item in the bytes of a field that has one
-pub first_item : (f : FieldDef) (o : Order) (w : ℕ) (bytes : List ℕ) → item_width f.code f.size ≡ w → (w ≡ 1) ⊎ (w ≡ 2) ⊎ (w ≡ 4) → w ≤ f.size
-    → first_number f (items_of o f bytes) ≡ valid_number f.code w (number o (take w bytes))
-first_item f o w bytes own small room = one_of f o w bytes own (some_items w f.size small room) room
-
--- the number of the first item at a place
-pub number_at : (p : Place) (o : Order) (bytes : List ℕ) (bits : ℕ) → IsKnown p → bits ≡ number o (take p.form.width (drop p.offset bytes))
-    → first_number p.field (items_at p o bytes) ≡ valid_number p.field.code p.form.width bits
-number_at p o bytes bits known is =
-    first_item p.field o p.form.width (drop p.offset bytes) known.width known.small.width known.room
-    ∙ ap (valid_number p.field.code p.form.width) (sym is)
+-- the number of the first item at a spot
+pub item_number : (s : Spot) (o : Order) (w : ℕ) (bytes : List ℕ) (bits : ℕ) → HasItem s.field → w ≡ (base_type s.field.code).width
+    → bits ≡ number o (take w (drop s.offset bytes)) → first_number s.field (items_at s o bytes) ≡ valid_number s.field.code w bits
+item_number s o w bytes bits has own is =
+    let f = s.field in
+    let room = subst (λ (k : ℕ). k ≤ f.size) (sym own) has.room in
+    let known = subst (λ (k : ℕ). (k ≡ 1) ⊎ (k ≡ 2) ⊎ (k ≡ 4) ⊎ (k ≡ 8)) (sym own) (code_width f.code) in
+    one_of f o w (drop s.offset bytes) (has.width ∙ sym own) (some_items w f.size known room) room ∙ ap (valid_number f.code w) (sym is)
 
 -- it has the width of its form
 pub item_below : (o : Order) (bytes : List ℕ) (offset w n : ℕ) → IsBytes bytes → offset + w ≤ length bytes → n ≡ number o (take w (drop offset bytes))
@@ -163,47 +159,36 @@ value_hidden code form m bits is none =
 
 -- ---- the number of the first field
 
-abbrev amount_of : Option (ℤ × Meaning) → Option (List ℕ)
+abbrev pub amount_of : Option (ℤ × Meaning) → Option (List ℕ)
 amount_of known = option_map (λ (x : ℤ × Meaning). amount_text x.0 x.1.scale x.1.offset) known
 
-abbrev number_of_first : Option Meaning → Option (FieldDef × Items Global) → Option (List ℕ)
-number_of_first meaning first =
-    amount_of (option_and_then (λ (g : FieldDef × Items Global). option_and_then (λ raw. option_map (λ n. (raw, n)) meaning) (first_number g.0 g.1)) first)
-
-of_raw : (raw : Option ℤ) (meaning : Option Meaning) (m : Meaning) → meaning ≡ Some m
+pub of_raw : (raw : Option ℤ) (meaning : Option Meaning) (m : Meaning) → meaning ≡ Some m
     → amount_in m raw ≡ amount_of (option_and_then (λ r. option_map (λ n. (r, n)) meaning) raw)
 of_raw None meaning m e = refl
 of_raw (Some r) meaning m e = rw e refl
 
-of_meaning : (d : MessageDef Global) (v : Values Global) (number : ℕ) (f : FieldDef) (i : Items Global) (form : NumberForm) (meaning : Option Meaning)
-    → field d.global number ≡ meaning → IsSomeAnd meaning (λ m. IsFormOf f.code (Some m) form) → first_field d.fields v.fields number ≡ Some (f, i)
-    → (m : Meaning) × IsFormOf f.code (Some m) form × (amount_in m (first_number f i) ≡ value_text d v number)
-of_meaning d v number f i form None is known first = absurd known
-of_meaning d v number f i form (Some m) is known first =
-    (m, known, of_raw (first_number f i) (field d.global number) m is ∙ ap (number_of_first (field d.global number)) (sym first))
+-- what the profile says of a field with a form
+pub some_meaning : (code : ℕ) (form : NumberForm) (meaning : Option Meaning) → IsSomeAnd meaning (λ m. IsFormOf code (Some m) form)
+    → (m : Meaning) × (meaning ≡ Some m) × IsFormOf code (Some m) form
+some_meaning code form None known = absurd known
+some_meaning code form (Some m) known = (m, refl, known)
 
--- what a place shows is the number of the first field
-pub placed_value : (d : MessageDef Global) (v : Values Global) (number : ℕ) (f : FieldDef) (i : Items Global) (form : NumberForm) → d.global ≡ 20
-    → IsSomeAnd (field 20 number) (λ m. IsFormOf f.code (Some m) form) → first_field d.fields v.fields number ≡ Some (f, i)
-    → (m : Meaning) × IsFormOf f.code (Some m) form × (amount_in m (first_number f i) ≡ value_text d v number)
-placed_value d v number f i form global known first =
-    of_meaning d v number f i form (field 20 number) (ap (λ (g : ℕ). field g number) global) known first
+-- the first field of a number in the bytes of a message
+pub first_at : (s : Spot) (o : Order) (bytes : List ℕ) (d : MessageDef Global) (v : Values Global) (number : ℕ) → IsFirst d.fields number s
+    → v.fields ≡ fields_from o (slots d.fields) bytes → first_field d.fields v.fields number ≡ Some (s.field, items_at s o bytes)
+first_at s o bytes d v number first are = ap (λ (items : List (Items Global)). first_field d.fields items number) are ∙ first.finds o bytes
 
--- the first field of a number by its place
-pub first_at : (p : Place) (o : Order) (bytes : List ℕ) (d : MessageDef Global) (v : Values Global) (number : ℕ) → IsFirst d.fields number p
-    → v.fields ≡ fields_from o (slots d.fields) bytes → first_field d.fields v.fields number ≡ Some (p.field, items_at p o bytes)
-first_at p o bytes d v number first are = ap (λ (items : List (Items Global)). first_field d.fields items number) are ∙ first.finds o bytes
+abbrev meant_as : Option Meaning → FieldDef × Items Global → Option (ℤ × Meaning)
+meant_as meaning g = option_and_then (λ raw. option_map (λ m. (raw, m)) meaning) (first_number g.0 g.1)
 
--- what its place shows
-pub value_in : (p : Place) (o : Order) (bytes : List ℕ) (d : MessageDef Global) (v : Values Global) (number : ℕ) → IsFirst d.fields number p → d.global ≡ 20
-    → v.fields ≡ fields_from o (slots d.fields) bytes
-    → (m : Meaning) × IsFormOf p.field.code (Some m) p.form × (amount_in m (first_number p.field (items_at p o bytes)) ≡ value_text d v number)
-value_in p o bytes d v number first global are =
-    placed_value d v number p.field (items_at p o bytes) p.form global
-    (subst (λ (n : ℕ). IsSomeAnd (field 20 n) (λ m. IsFormOf p.field.code (Some m) p.form)) first.numbered first.known.form)
-    (first_at p o bytes d v number first are)
+-- what the items of the first field of a number hold, and what the profile says of it
+pub meant_first : (d : MessageDef Global) (v : Values Global) (number : ℕ) (f : FieldDef) (i : Items Global) → d.global ≡ 20
+    → first_field d.fields v.fields number ≡ Some (f, i) → meant_number number f i ≡ known_number d v number
+meant_first d v number f i global first =
+    ap (λ (g : ℕ). meant_as (field g number) (f, i)) (sym global) ∙ ap (option_and_then (meant_as (field d.global number))) (sym first)
 
-number_none : (meaning : Option Meaning) (first : Option (FieldDef × Items Global)) → held_number first ≡ None → number_of_first meaning first ≡ None
+number_none : (meaning : Option Meaning) (first : Option (FieldDef × Items Global)) → held_number first ≡ None
+    → amount_of (option_and_then (meant_as meaning) first) ≡ None
 number_none meaning None none = refl
 number_none meaning (Some g) none =
     ap (λ (raw : Option ℤ). amount_of (option_and_then (λ r. option_map (λ n. (r, n)) meaning) raw)) none
@@ -212,32 +197,27 @@ pub no_value : (d : MessageDef Global) (v : Values Global) (number : ℕ) → he
     → value_text d v number ≡ None
 no_value d v number none = number_none (field d.global number) (first_field d.fields v.fields number) none
 
-abbrev pub degrees_of_first : Option (FieldDef × Items Global) → Option (List ℕ)
-degrees_of_first first =
-    option_and_then (λ (f : FieldDef × Items Global). if f.0.code == 0x85 then option_map (λ s. fixed_text (degrees_of s) 7) (first_number f.0 f.1) else None)
-    first
-
 pub placed_degrees : (d : MessageDef Global) (v : Values Global) (number : ℕ) (f : FieldDef) (i : Items Global)
     → first_field d.fields v.fields number ≡ Some (f, i)
     → degrees_text d v number ≡ (if f.code == 0x85 then option_map (λ s. fixed_text (degrees_of s) 7) (first_number f i) else None)
 placed_degrees d v number f i first = ap degrees_of_first first
 
-degrees_none : (first : Option (FieldDef × Items Global)) → held_number first ≡ None → degrees_of_first first ≡ None
+pub degrees_none : (first : Option (FieldDef × Items Global)) → held_number first ≡ None → degrees_of_first first ≡ None
 degrees_none None none = refl
 degrees_none (Some g) none = elim (cases_Bool (g.0.code == 0x85)) [
   | inl is ↦ rw is (ap (option_map (λ (s : ℤ). fixed_text (degrees_of s) 7)) none)
   | inr other ↦ rw other refl
 ]
 
-pub no_degrees : (d : MessageDef Global) (v : Values Global) (number : ℕ) → held_number (first_field d.fields v.fields number) ≡ None
-    → degrees_text d v number ≡ None
-no_degrees d v number none = degrees_none (first_field d.fields v.fields number) none
+pub degrees_of_other : (f : FieldDef) (i : Items Global) → (f.code ≡ 0x85 → ⊥) → degrees_of_first (Some (f, i)) ≡ None
+degrees_of_other f i other = rw (ne_eqb f.code 0x85 other) refl
 
--- the position at a place
-pub position_at : (p : Place) (o : Order) (bytes : List ℕ) (bits : ℕ) → IsKnown p → bits ≡ number o (take p.form.width (drop p.offset bytes))
-    → p.field.code ≡ 0x85
-    → option_map (λ s. fixed_text (degrees_of s) 7) (valid_number 0x85 p.form.width bits)
-    ≡ (if p.field.code == 0x85 then option_map (λ s. fixed_text (degrees_of s) 7) (first_number p.field (items_at p o bytes)) else None)
-position_at p o bytes bits known is code =
-    rw (eq-eqb p.field.code 0x85 code) (ap (λ (n : Option ℤ). option_map (λ s. fixed_text (degrees_of s) 7) n)
-    (ap (λ (c : ℕ). valid_number c p.form.width bits) (sym code) ∙ sym (number_at p o bytes bits known is)))
+-- the position at a spot
+pub position_at : (s : Spot) (o : Order) (bytes : List ℕ) (bits : ℕ) → HasItem s.field → s.field.code ≡ 0x85
+    → bits ≡ number o (take 4 (drop s.offset bytes))
+    → option_map (λ s. fixed_text (degrees_of s) 7) (valid_number 0x85 4 bits)
+    ≡ (if s.field.code == 0x85 then option_map (λ s. fixed_text (degrees_of s) 7) (first_number s.field (items_at s o bytes)) else None)
+position_at s o bytes bits has code is =
+    rw (eq-eqb s.field.code 0x85 code) (ap (λ (n : Option ℤ). option_map (λ s. fixed_text (degrees_of s) 7) n)
+    (ap (λ (c : ℕ). valid_number c 4 bits) (sym code)
+    ∙ sym (item_number s o 4 bytes bits has (ap (λ (c : ℕ). (base_type c).width) (sym code)) is)))

@@ -4,12 +4,12 @@ use Rattle.fit_table.proofs.Common.{high-fixed, unquoted, AddsCell, PutsCell, Me
 use Rattle.fit_table.proofs.Common.{known_number, amount_text, value_text, degrees_text}
 use Rattle.std.proofs.Common.{ℕ, List, Option, Some, None, ◌==◌}
 use Rattle.std.proofs.lemmas.List.{append-nil}
-use Rattle.std.specs.Prelude.{option_map, unwrap_or, pos, ℤ, IfOk, Result, Ok, Err}
+use Rattle.std.specs.Prelude.{option_map, unwrap_or, pos, ℤ}
 use Rattle.fit_record.specs.Faults.{or_else}
 use Rattle.fit_profile.specs.Profile.{Meaning}
 use Rattle.fit_cells.specs.Rows.{Cell}
 use Rattle.fit_table.specs.Degrees.{degrees_of}
-use Rattle.fit_table.proofs.TableColumnFacts.{degrees_of_first}
+use Rattle.fit_table.specs.inner.TableColumns.{degrees_of_first}
 
 -- ---- whether a cell was put
 
@@ -18,10 +18,6 @@ puts_none cell text none = rw none (refl, sym (append-nil text))
 
 pub puts_some : (cell : Option Cell) (put : Cell) (old new : List ℕ) → cell ≡ Some put → new ≡ old ++ put → PutsCell cell true old new
 puts_some cell put old new some is = rw some (refl, is)
-
-pub if_ok : {T E : Type 0} (P Q : T → Type 0) (r : Result T E) → ((x : T) → P x → Q x) → IfOk r P → IfOk r Q
-if_ok P Q (Ok x) weaker holds = weaker x holds
-if_ok P Q (Err e) weaker holds = tt
 
 -- the first of two cells, and else the other
 pub first_put : (a b : Option Cell) (put : Bool) (old new : List ℕ) → PutsCell a put old new → put ≡ true → new ≡ old ++ unwrap_or (or_else a b) []

@@ -4,62 +4,78 @@ ghost use Rattle.std.specs.List.{list_any};
 ghost use Rattle.fit_base.specs.BaseTypes.{base_type, item_width};
 ghost use Rattle.fit_base.specs.Numbers.{number};
 ghost use Rattle.fit_record.specs.declared.definition.FieldDef.{FieldDef};
-ghost use Rattle.fit_profile.specs.Values.{valid_number};
+ghost use Rattle.fit_profile.specs.Values.{IsValueOf, valid_number};
 ghost use Rattle.fit_table.specs.declared.kinds.Kind.TheVariants.{Other};
-ghost use Rattle.fit_table.specs.inner.TableColumns.{ArePlaces, IsColumn, IsKnown, IsPlaced, ShowsNothing, is_tabled};
+ghost use Rattle.fit_table.specs.inner.TableColumns.{ArePlaces, IsColumn, IsFirst, IsIn, IsKnown, IsPosition, IsSpot, IsSpotAt, ShowsNothing, is_position, is_tabled, items_at, meant_number};
 ghost use Rattle.fit_table.specs.inner.TableKinds.{IsOfKind};
 
 use crate::kinds::Kind;
+use fit_base::base_type::SINT32;
 use fit_base::{Class, Code, Order, bits_at, width_of};
 use fit_cells::{NumberForm, number_form};
-use fit_profile::field_info;
 use fit_profile::field_number::COMPRESSED_SPEED_DISTANCE;
 use fit_profile::message_number::RECORD;
-use fit_record::FieldDef;
-use fit_texts::are_same;
+use fit_profile::{Fixed, field_info, value_of};
+use fit_record::{FieldDef, same_fields};
 use std::alloc::{AllocError, Global};
 use std::marker::Model;
 
-/// Where the first item of a field stands among the bytes of a message, and how it is shown.
+/// Where the first item of a field stands among the bytes of a message.
 #[derive(Clone, Copy)]
-pub(crate) struct Place {
+pub(crate) struct Spot {
     /// How many bytes come before it.
     pub offset: usize,
     pub field: FieldDef,
+}
+
+impl Spot {
+    /// The bits of the item in the bytes of a message. It is as wide as its base type.
+    #[inline(always)]
+    pub(crate) fn bits(&self, width: u8, order: Order, bytes: &[u8]) -> u64
+        requires spot { IsIn self.now bytes.now }
+        requires width { width ≡ (base_type self.now.field.code).width }
+        ensures bits { result ≡ number order (take width (drop self.now.offset bytes.now)) }
+        ensures small { result < 256 ^ width }
+    {
+        let (_, from) = bytes.split_at(self.offset);
+        let (item, _) = from.split_at(width as usize);
+        bits_at(order, width, item)
+    }
+
+    /// The number of the item in the bytes of a record message, as that of the first field of this number.
+    #[cold]
+    #[inline(never)]
+    pub(crate) fn value(&self, number: u8, order: Order, bytes: &[u8]) -> Option<Fixed>
+        requires { IsIn self.now bytes.now }
+        ensures value { IsValueOf (meant_number number self.now.field
+            (items_at self.now order bytes.now)) result }
+        ensures few { IfSome result (λ v. v.decimals ≤ 8) }
+    {
+        let width = Code(self.field.code).width();
+        let bits = self.bits(width, order, bytes);
+        value_of(RECORD, number, self.field.code, width, bits)
+    }
+}
+
+/// Where the first item of a field stands, and how it is shown.
+#[derive(Clone, Copy)]
+pub(crate) struct Place {
+    pub spot: Spot,
     pub form: NumberForm,
     pub kind: Kind,
 }
 
 impl Place {
-    /// The bits of the item in the bytes of a message.
-    #[inline(always)]
-    pub(crate) fn bits(&self, order: Order, bytes: &[u8]) -> u64
-        requires known { IsKnown self.now }
-        requires within { self.now.offset + self.now.field.size ≤ length bytes.now }
-        ensures bits { result ≡ number order
-            (take self.now.form.width (drop self.now.offset bytes.now)) }
-        ensures small { result < 256 ^ self.now.form.width }
-    {
-        let (_, from) = bytes.split_at(self.offset);
-        let (item, _) = from.split_at(self.form.width as usize);
-        bits_at(order, self.form.width, item)
-    }
-
-    /// This place with the base type and the form of a kind, which are its own.
+    /// This place with the form of a kind, which is its own.
     #[inline(always)]
     pub(crate) fn of_kind(&self, kind: Kind) -> Place
-        requires known { IsOfKind self.now.kind self.now.field.code self.now.form }
+        requires known { IsOfKind self.now.kind self.now.spot.field.code self.now.form }
         requires same { self.now.kind ≡ kind }
         requires some { kind ≡ Other → ⊥ }
         ensures { result ≡ self.now }
     {
         Place {
-            offset: self.offset,
-            field: FieldDef {
-                number: self.field.number,
-                size: self.field.size,
-                code: kind.code(),
-            },
+            spot: self.spot,
             form: kind.form(),
             kind,
         }
@@ -69,9 +85,11 @@ impl Place {
 /// Where the number of the first field of a number stands.
 #[derive(Clone, Copy)]
 pub(crate) enum Column {
+    At(Place),
     /// No field has the number, or the first one that has it holds none.
     Absent,
-    At(Place),
+    /// The form of the items isn't known, as of numbers of eight bytes.
+    Wide(Spot),
 }
 
 /// Whether the items of this base type may be numbers.
@@ -98,38 +116,82 @@ fn may_show(field: &FieldDef) -> bool
     may_be_numbers(code)
 }
 
-/// The column of a field of record messages after that many bytes, where it shows nothing or the form of its items is known, as of
-/// numbers of at most four bytes.
-fn placed(offset: usize, field: &FieldDef) -> Option<Column>
-    ensures { IfSome result (IsPlaced offset field.now) }
+/// The spot of a field after that many bytes, where it may show a number.
+fn spot_at(offset: usize, field: &FieldDef) -> Option<Spot>
+    ensures { IsSpotAt offset field.now result }
 {
     if !may_show(field) {
-        return Some(Column::Absent);
+        return None;
     }
-    let code = Code(field.code);
-    let info = field_info(RECORD, field.number)?;
-    let form = number_form(code, Some(info))?;
-    Some(Column::At(Place {
+    Some(Spot {
         offset,
         field: *field,
-        form,
-        kind: Kind::of(field.number, field.code, form),
-    }))
+    })
 }
 
-/// The column of the first field of this number, where it can be read.
-fn column_of(fields: &[FieldDef], number: u8) -> Option<Column>
+/// The spot of the first field of this number, where it may show a number.
+fn spot_of(fields: &[FieldDef], number: u8) -> Option<Spot>
     requires { length fields.now < 256 }
-    ensures { IfSome result (IsColumn fields.now number) }
+    ensures { IsSpot fields.now number result }
 {
     let mut offset = 0;
     for field in fields {
         if field.number == number {
-            return placed(offset, field);
+            return spot_at(offset, field);
         }
         offset += field.size as usize;
     }
-    Some(Column::Absent)
+    None
+}
+
+/// The place of a field of record messages, where the form of its items is known, as of numbers of at most four bytes.
+fn place_of(spot: Spot) -> Option<Place>
+    ensures { IfSome result (λ p. (p.spot ≡ spot) × IsKnown p) }
+{
+    let code = Code(spot.field.code);
+    let info = field_info(RECORD, spot.field.number)?;
+    let form = number_form(code, Some(info))?;
+    Some(Place {
+        spot,
+        form,
+        kind: Kind::of(spot.field.number, spot.field.code, form),
+    })
+}
+
+/// The column of a first field of record messages.
+fn placed(spot: Spot) -> Column
+    ensures { (fields : List FieldDef) (number : ℕ) → IsFirst fields number spot
+        → IsColumn fields number result }
+{
+    match place_of(spot) {
+        Some(place) => Column::At(place),
+        None => Column::Wide(spot),
+    }
+}
+
+/// The column of the first field of this number.
+fn column_of(fields: &[FieldDef], number: u8) -> Column
+    requires { length fields.now < 256 }
+    ensures { IsColumn fields.now number result }
+{
+    match spot_of(fields, number) {
+        Some(spot) => placed(spot),
+        None => Column::Absent,
+    }
+}
+
+/// The spot of the first field of this number, where it may be a position: where it is of the base type sint32.
+fn position_of(fields: &[FieldDef], number: u8) -> Option<Spot>
+    requires { length fields.now < 256 }
+    ensures { IsPosition fields.now number result }
+{
+    let Some(spot) = spot_of(fields, number) else {
+        return None;
+    };
+    if spot.field.code != SINT32 {
+        return None;
+    }
+    Some(spot)
 }
 
 /// Whether one of the fields has this number.
@@ -144,8 +206,8 @@ fn have(fields: &[FieldDef], number: u8) -> bool
 pub(crate) struct Places {
     /// Whether a field may have a distance to accumulate.
     pub counts: bool,
-    pub position_lat: Column,
-    pub position_long: Column,
+    pub position_lat: Option<Spot>,
+    pub position_long: Option<Spot>,
     pub enhanced_altitude: Column,
     pub altitude: Column,
     pub distance: Column,
@@ -158,26 +220,40 @@ pub(crate) struct Places {
 }
 
 impl Places {
-    /// Those of record messages with these fields, where each can be read.
+    /// Those of record messages with these fields.
     #[tactic(auto, using(crate::proofs::TableColumnFacts::have_none))]
-    fn new(fields: &[FieldDef]) -> Option<Places>
+    fn new(fields: &[FieldDef]) -> Places
         requires { length fields.now < 256 }
-        ensures { IfSome result (ArePlaces fields.now) }
+        ensures { ArePlaces fields.now result }
     {
-        Some(Places {
+        Places {
             counts: have(fields, COMPRESSED_SPEED_DISTANCE),
-            position_lat: column_of(fields, 0)?,
-            position_long: column_of(fields, 1)?,
-            enhanced_altitude: column_of(fields, 78)?,
-            altitude: column_of(fields, 2)?,
-            distance: column_of(fields, 5)?,
-            enhanced_speed: column_of(fields, 73)?,
-            speed: column_of(fields, 6)?,
-            heart_rate: column_of(fields, 3)?,
-            cadence: column_of(fields, 4)?,
-            power: column_of(fields, 7)?,
-            temperature: column_of(fields, 13)?,
-        })
+            position_lat: position_of(fields, 0),
+            position_long: position_of(fields, 1),
+            enhanced_altitude: column_of(fields, 78),
+            altitude: column_of(fields, 2),
+            distance: column_of(fields, 5),
+            enhanced_speed: column_of(fields, 73),
+            speed: column_of(fields, 6),
+            heart_rate: column_of(fields, 3),
+            cadence: column_of(fields, 4),
+            power: column_of(fields, 7),
+            temperature: column_of(fields, 13),
+        }
+    }
+
+    /// The spot of the position in the first field of its number.
+    #[inline(always)]
+    pub(crate) fn position(&self, number: u8) -> Option<Spot>
+        requires { is_position number ≡ true }
+        ensures { (fields : List FieldDef) → ArePlaces fields self.now
+            → IsPosition fields number result }
+    {
+        match number {
+            0 => self.position_lat,
+            1 => self.position_long,
+            _ => unreachable!(),
+        }
     }
 
     /// The column of the first field of a number of the table.
@@ -188,8 +264,6 @@ impl Places {
             → IsColumn fields number result.now }
     {
         match number {
-            0 => &self.position_lat,
-            1 => &self.position_long,
             2 => &self.altitude,
             3 => &self.heart_rate,
             4 => &self.cadence,
@@ -204,15 +278,15 @@ impl Places {
     }
 }
 
-/// The fields of record messages, and where the numbers of the table stand in their bytes, where they can be read there.
+/// The fields of record messages, and where the numbers of the table stand in their bytes.
 #[derive(Drop)]
 pub(crate) struct Columns {
     fields: Vec<FieldDef>,
-    places: Option<Places>,
+    places: Places,
 }
 
 impl Model for Columns {
-    ghost use Rattle.std.specs.Prelude.{IfSome, List};
+    ghost use Rattle.std.specs.Prelude.{List};
     ghost use Rattle.fit_record.specs.declared.definition.FieldDef.{FieldDef};
     ghost use Rattle.fit_table.specs.inner.TableColumns.{ArePlaces};
 
@@ -220,7 +294,7 @@ impl Model for Columns {
 
     ghost view = { λ c. c.fields.items };
 
-    ghost invariant = { λ c. IfSome c.places (ArePlaces c.fields.items) };
+    ghost invariant = { λ c. ArePlaces c.fields.items c.places };
 }
 
 impl Columns {
@@ -242,25 +316,24 @@ impl Columns {
         requires { length fields.now < 256 }
         ensures { OnOk result (self.new ≡ fields.now) }
     {
-        self.places = None;
         self.fields.clear();
-        self.fields.extend_from_slice(fields)?;
-        self.places = Places::new(fields);
-        Ok(())
+        let extended = self.fields.extend_from_slice(fields);
+        self.places = Places::new(self.fields.as_slice());
+        extended
     }
 
     /// Whether they are those of these fields.
     pub(crate) fn are_of(&self, fields: &[FieldDef]) -> bool
         ensures { IsTrue result → self.now ≡ fields.now }
     {
-        are_same(self.fields.as_slice(), fields)
+        same_fields(self.fields.as_slice(), fields)
     }
 
-    /// The places, where the numbers can be read.
+    /// The places.
     #[inline(always)]
-    pub(crate) fn places(&self) -> Option<&Places>
-        ensures { IfSome result (λ p. ArePlaces self.now p.now) }
+    pub(crate) fn places(&self) -> &Places
+        ensures { ArePlaces self.now result.now }
     {
-        self.places.as_ref()
+        &self.places
     }
 }

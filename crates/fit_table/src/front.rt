@@ -2,11 +2,10 @@
 ghost use Rattle.std.specs.Prelude.{◌≡◌, ◌≤◌, ◌<◌, ◌+◌, ◌/◌, ◌^◌, ◌++◌, ◌∷◌, [], ℕ, IfOk, IfSome, IsTrue, OnOk, Some, decimal, length, option_map, take, unwrap_or};
 ghost use Rattle.csv.specs.Writing.{default_writer, fields_text};
 ghost use Rattle.fit_texts.specs.InstantText.{instant_text};
-ghost use Rattle.fit_texts.specs.Minutes.{seconds_text};
 
 use fit_profile::put_whole;
 use fit_texts::words::time_text;
-use fit_texts::{LAST_SYSTEM_MINUTE, SHORT, Stamp};
+use fit_texts::{LAST_SYSTEM_MINUTE, SHORT, Stamp, put_minute, write_seconds};
 use std::alloc::{AllocError, Global};
 use std::marker::Model;
 
@@ -35,32 +34,6 @@ impl Model for Front {
     ghost invariant = { λ f. IsFront f.file f.minute f.text × (length f.text ≤ 32) };
 }
 
-/// Writes a byte into the bytes of a row. Returns the place after it.
-#[inline(always)]
-pub(crate) fn write_byte(row: &mut [u8], at: usize, byte: u8) -> usize
-    requires room { at + 1 ≤ length row.old }
-    ensures size { length row.new ≡ length row.old }
-    ensures end { result ≡ at + 1 }
-    ensures text { take result row.new ≡ take at row.old ++ byte ∷ [] }
-{
-    row[at] = byte;
-    at + 1
-}
-
-/// Writes the seconds of a time and its end into the bytes of a row. Returns the place after them.
-#[inline(always)]
-fn write_seconds(row: &mut [u8], at: usize, seconds: u32) -> usize
-    requires small { seconds < 60 }
-    requires room { at + 3 ≤ length row.old }
-    ensures size { length row.new ≡ length row.old }
-    ensures end { result ≡ at + 3 }
-    ensures text { take result row.new ≡ take at row.old ++ seconds_text seconds }
-{
-    let at = write_byte(row, at, b'0' + (seconds / 10) as u8);
-    let at = write_byte(row, at, b'0' + (seconds % 10) as u8);
-    write_byte(row, at, b'Z')
-}
-
 impl Front {
     /// That of the rows of a file with times of the minute of this time, where it is short.
     fn of(alloc: Global, file: u64, time: u32) -> Result<Option<Front>, AllocError>
@@ -70,9 +43,7 @@ impl Front {
         let mut text = Vec::with_capacity(alloc, FRONT_ROOM)?;
         put_whole(&mut text, file)?;
         text.push(b',')?;
-        let end = text.len() + 17;
-        text.extend_from_slice(time_text(Some(time)).as_str().as_bytes())?;
-        text.truncate(end);
+        put_minute(&mut text, time)?;
         if text.len() > SHORT {
             return Ok(None);
         }

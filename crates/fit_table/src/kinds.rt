@@ -1,9 +1,9 @@
 //! The kinds of numbers that most recordings have in the cells of the table. A cell whose numbers are of its usual kind is written by
 //! code that was compiled for this kind, and so needn't look up for each row how they are shown.
-ghost use Rattle.std.specs.Prelude.{◌≡◌, IsTrue, false, true};
+ghost use Rattle.std.specs.Prelude.{◌≡◌, IsTrue};
 ghost use Rattle.fit_table.specs.inner.TableKinds.{IsOfKind, kind_code, kind_form};
 
-use fit_base::base_type::{SINT8, SINT32, UINT8, UINT16, UINT32};
+use fit_base::base_type::{SINT8, UINT8, UINT16, UINT32};
 use fit_cells::NumberForm;
 
 /// A base type, and how its numbers are shown in a cell.
@@ -11,7 +11,6 @@ use fit_cells::NumberForm;
 pub(crate) enum Kind {
     /// None of the others.
     Other,
-    Semicircles,
     Byte,
     SignedByte,
     Short,
@@ -22,11 +21,18 @@ pub(crate) enum Kind {
     LongHundredths,
 }
 
-/// The form of numbers that are no less than zero.
+/// The form with these members.
 #[inline(always)]
-fn unsigned(width: u8, invalid: u64, factor: u32, shift: u64, decimals: u8) -> NumberForm
+fn form_of(
+    signed: bool,
+    width: u8,
+    invalid: u64,
+    factor: u32,
+    shift: u64,
+    decimals: u8,
+) -> NumberForm
     ensures { result ≡ record {
-      signed = false;
+      signed = signed;
       width = width;
       invalid = invalid;
       factor = factor;
@@ -35,34 +41,12 @@ fn unsigned(width: u8, invalid: u64, factor: u32, shift: u64, decimals: u8) -> N
     } }
 {
     NumberForm {
-        signed: false,
+        signed,
         width,
         invalid,
         factor,
         shift,
         decimals,
-    }
-}
-
-/// The form of whole numbers that may be below zero.
-#[inline(always)]
-fn signed(width: u8, invalid: u64) -> NumberForm
-    ensures { result ≡ record {
-      signed = true;
-      width = width;
-      invalid = invalid;
-      factor = 1;
-      shift = 0;
-      decimals = 0;
-    } }
-{
-    NumberForm {
-        signed: true,
-        width,
-        invalid,
-        factor: 1,
-        shift: 0,
-        decimals: 0,
     }
 }
 
@@ -83,7 +67,6 @@ impl Kind {
     #[inline(always)]
     pub(crate) fn usual(number: u8) -> Kind {
         match number {
-            0 | 1 => Kind::Semicircles,
             2 => Kind::ShortHeight,
             3 | 4 => Kind::Byte,
             5 => Kind::LongHundredths,
@@ -103,7 +86,6 @@ impl Kind {
     {
         match self {
             Kind::Other => 0,
-            Kind::Semicircles => SINT32,
             Kind::Byte => UINT8,
             Kind::SignedByte => SINT8,
             Kind::Short | Kind::ShortHeight | Kind::ShortThousandths => UINT16,
@@ -117,15 +99,14 @@ impl Kind {
         ensures { result ≡ kind_form self }
     {
         match self {
-            Kind::Semicircles => signed(4, 0x7FFF_FFFF),
-            Kind::SignedByte => signed(1, 0x7F),
-            Kind::Other | Kind::Byte => unsigned(1, 0xFF, 1, 0, 0),
-            Kind::Short => unsigned(2, 0xFFFF, 1, 0, 0),
-            Kind::ShortHeight => unsigned(2, 0xFFFF, 2, 2500, 1),
-            Kind::LongHeight => unsigned(4, 0xFFFF_FFFF, 2, 2500, 1),
-            Kind::ShortThousandths => unsigned(2, 0xFFFF, 1, 0, 3),
-            Kind::LongThousandths => unsigned(4, 0xFFFF_FFFF, 1, 0, 3),
-            Kind::LongHundredths => unsigned(4, 0xFFFF_FFFF, 1, 0, 2),
+            Kind::SignedByte => form_of(true, 1, 0x7F, 1, 0, 0),
+            Kind::Other | Kind::Byte => form_of(false, 1, 0xFF, 1, 0, 0),
+            Kind::Short => form_of(false, 2, 0xFFFF, 1, 0, 0),
+            Kind::ShortHeight => form_of(false, 2, 0xFFFF, 2, 2500, 1),
+            Kind::LongHeight => form_of(false, 4, 0xFFFF_FFFF, 2, 2500, 1),
+            Kind::ShortThousandths => form_of(false, 2, 0xFFFF, 1, 0, 3),
+            Kind::LongThousandths => form_of(false, 4, 0xFFFF_FFFF, 1, 0, 3),
+            Kind::LongHundredths => form_of(false, 4, 0xFFFF_FFFF, 1, 0, 2),
         }
     }
 

@@ -1,5 +1,5 @@
 //! The rows of the table, and what is kept from one to the next.
-ghost use Rattle.std.specs.Prelude.{◌≡◌, ◌∷◌, ◌<◌, [], ℕ, IfOk, IfSome, List, OnOk, Some, false, length, option_map, slice_get, true};
+ghost use Rattle.std.specs.Prelude.{◌≡◌, ◌∷◌, ◌<◌, [], ℕ, IfSome, List, OnOk, Some, length, option_map, slice_get, true};
 ghost use Rattle.fit_record.specs.Environment.{defined_at};
 ghost use Rattle.fit_record.specs.MessageBytes.{message_in};
 ghost use Rattle.fit_record.specs.Records.{IsRecord, message_size};
@@ -7,19 +7,17 @@ ghost use Rattle.fit_record.specs.Sound.{IsSound};
 ghost use Rattle.fit_record.specs.declared.definition.FieldDef.{FieldDef};
 ghost use Rattle.fit_record.specs.declared.message.Record.TheVariants.{Values as Data};
 ghost use Rattle.fit_profile.specs.Looks.{known};
-ghost use Rattle.fit_profile.specs.Meant.{shown};
 ghost use Rattle.fit_profile.specs.declared.told.Told.{Told};
 ghost use Rattle.fit_cells.specs.Rows.{HasRows};
 ghost use Rattle.fit_table.specs.Table as table;
 ghost use Rattle.fit_texts.specs.Current.{IsCurrent, Renews};
-ghost use Rattle.fit_table.specs.inner.TableCells.{MayPutRow};
 ghost use Rattle.fit_table.specs.inner.TableColumns.{ArePlaces, TellsAmounts};
 
 use crate::amounts::Amounts;
 use crate::columns::{Columns, Places};
 use crate::numbers::in_bytes::NumbersInBytes;
 use crate::rows::{TableRowMaker, put_row};
-use fit_profile::{Message, Stream};
+use fit_profile::Stream;
 use fit_record::{FieldDef, MessageBytes};
 use fit_texts::{ByLocal, keep_at, note};
 use std::alloc::{AllocError, Global};
@@ -31,19 +29,6 @@ pub struct TableMaker {
     pub(crate) rows: TableRowMaker,
     /// Those of the last record message of each local message type.
     pub(crate) columns: ByLocal<Columns>,
-}
-
-/// Puts the row of a record message of a file.
-pub(crate) fn put_table_row(
-    text: &mut Vec<u8>,
-    rows: &mut TableRowMaker,
-    message: &Message,
-    file: u64,
-) -> Result<(), AllocError>
-    ensures { OnOk result (HasRows (table.table_row file (shown message.now).definition
-        (shown message.now).values (shown message.now).told ∷ []) text.old text.new) }
-{
-    put_row(text, rows, file, message.time(), message)
 }
 
 /// Puts the row of a record message of a file from its bytes by these places of its numbers, and by what it tells of a distance to
@@ -101,8 +86,7 @@ fn put_counted(
     put_placed(text, rows, places, Some(&amounts), message, time, file)
 }
 
-/// Puts the row of a record message of a file from its bytes after the records of a stream, by its columns, where its numbers can be
-/// read there, and returns whether they can.
+/// Puts the row of a record message of a file from its bytes after the records of a stream, by its columns.
 fn put_by(
     text: &mut Vec<u8>,
     rows: &mut TableRowMaker,
@@ -111,27 +95,22 @@ fn put_by(
     message: &MessageBytes<'_>,
     bytes: &[u8],
     file: u64,
-) -> Result<bool, AllocError>
+) -> Result<(), AllocError>
     requires fields { message.now.defined.now.definition.fields ≡ columns.now }
     requires global { message.now.defined.now.definition.global ≡ 20 }
     requires long { length message.now.body.now ≡ message_size message.now.defined.now }
     requires defined { defined_at (known stream.now) message.now.local
         ≡ Some message.now.defined.now }
     requires record_ { IsRecord (known stream.now) (Data (message_in message.now)) bytes.now }
-    ensures row { IfOk result (λ put. MayPutRow file stream.now (message_in message.now) put
-        text.old text.new) }
-    ensures none { IfOk result (λ put. put ≡ false → text.new.items ≡ text.old.items) }
+    ensures { OnOk result (HasRows
+        (table.table_message_rows file stream.now (message_in message.now)) text.old text.new) }
 {
-    let Some(places) = columns.places() else {
-        return Ok(false);
-    };
+    let places = columns.places();
     if places.counts {
-        put_counted(text, rows, places, stream, message, bytes, file)?;
-        return Ok(true);
+        return put_counted(text, rows, places, stream, message, bytes, file);
     }
     let time = stream.message_time(bytes);
-    put_placed(text, rows, places, None, message, time, file)?;
-    Ok(true)
+    put_placed(text, rows, places, None, message, time, file)
 }
 
 /// Makes what is kept the columns of record messages with these fields.
@@ -191,8 +170,7 @@ fn renew(
     Ok(())
 }
 
-/// Puts the row of a record message of a file from its bytes after the records of a stream, by columns that are found out and kept,
-/// where its numbers can be read there, and returns whether they can.
+/// Puts the row of a record message of a file from its bytes after the records of a stream, by columns that are found out and kept.
 #[cold]
 #[inline(never)]
 fn put_by_new(
@@ -202,7 +180,7 @@ fn put_by_new(
     message: &MessageBytes<'_>,
     bytes: &[u8],
     file: u64,
-) -> Result<bool, AllocError>
+) -> Result<(), AllocError>
     requires global { message.now.defined.now.definition.global ≡ 20 }
     requires sound { IsSound message.now.defined.now }
     requires long { length message.now.body.now ≡ message_size message.now.defined.now }
@@ -211,18 +189,17 @@ fn put_by_new(
     requires record_ { IsRecord (known stream.now) (Data (message_in message.now)) bytes.now }
     requires current { IsCurrent maker.old.columns message.now.local
         message.now.defined.now.definition.fields }
-    ensures row { IfOk result (λ put. MayPutRow file stream.now (message_in message.now) put
-        text.old text.new) }
-    ensures none { IfOk result (λ put. put ≡ false → text.new.items ≡ text.old.items) }
+    ensures row { OnOk result (HasRows
+        (table.table_message_rows file stream.now (message_in message.now)) text.old text.new) }
     ensures current { Renews maker.old.columns maker.new.columns message.now.local
         message.now.defined.now.definition.fields }
 {
     let fields = message.defined.definition.fields.as_slice();
     renew(&mut maker.columns, maker.alloc, message.local, fields)?;
-    match kept_columns(maker.columns.items.as_slice(), message.local, true, fields) {
-        Some(columns) => put_by(text, &mut maker.rows, columns, stream, message, bytes, file),
-        None => Ok(false),
-    }
+    let Some(columns) = maker.columns.get(message.local) else {
+        unreachable!()
+    };
+    put_by(text, &mut maker.rows, columns, stream, message, bytes, file)
 }
 
 /// The columns that are kept for a local message type, where they are those of these fields.
@@ -245,8 +222,7 @@ fn kept_columns<'a>(
     None
 }
 
-/// Puts the row of a record message of a file from its bytes after the records of a stream, where its numbers can be read there, and
-/// returns whether they can.
+/// Puts the row of a record message of a file from its bytes after the records of a stream.
 pub(crate) fn put_message_row(
     text: &mut Vec<u8>,
     maker: &mut TableMaker,
@@ -254,7 +230,7 @@ pub(crate) fn put_message_row(
     message: &MessageBytes<'_>,
     bytes: &[u8],
     file: u64,
-) -> Result<bool, AllocError>
+) -> Result<(), AllocError>
     requires global { message.now.defined.now.definition.global ≡ 20 }
     requires sound { IsSound message.now.defined.now }
     requires long { length message.now.body.now ≡ message_size message.now.defined.now }
@@ -263,9 +239,8 @@ pub(crate) fn put_message_row(
     requires record_ { IsRecord (known stream.now) (Data (message_in message.now)) bytes.now }
     requires current { IsCurrent maker.old.columns message.now.local
         message.now.defined.now.definition.fields }
-    ensures row { IfOk result (λ put. MayPutRow file stream.now (message_in message.now) put
-        text.old text.new) }
-    ensures none { IfOk result (λ put. put ≡ false → text.new.items ≡ text.old.items) }
+    ensures row { OnOk result (HasRows
+        (table.table_message_rows file stream.now (message_in message.now)) text.old text.new) }
     ensures current { Renews maker.old.columns maker.new.columns message.now.local
         message.now.defined.now.definition.fields }
 {

@@ -1,7 +1,6 @@
 //! The rows of the table.
-ghost use Rattle.std.specs.Prelude.{◌≡◌, ◌≤◌, ◌+◌, ◌/◌, ◌++◌, ◌∷◌, [], OnOk, decimal, length, option_map, pos, take, true, unwrap_or};
+ghost use Rattle.std.specs.Prelude.{◌≡◌, ◌≤◌, ◌+◌, ◌/◌, ◌++◌, ◌∷◌, [], OnOk, decimal, length, option_map, pos, take, true};
 ghost use Rattle.std.specs.Global.{Global};
-ghost use Rattle.csv.specs.Writing.{default_writer, fields_text};
 ghost use Rattle.fit_record.specs.Faults.{or_else};
 ghost use Rattle.fit_record.specs.declared.definition.MessageDef.{MessageDef};
 ghost use Rattle.fit_record.specs.declared.message.Values.{Values};
@@ -10,10 +9,11 @@ ghost use Rattle.fit_cells.specs.Rows.{HasRows};
 ghost use Rattle.fit_texts.specs.InstantText.{instant_text};
 ghost use Rattle.fit_table.specs.Table as table;
 ghost use Rattle.fit_table.specs.inner.TableCells.{AddsCell, AddsCells, AreSome, EndsRow, effort_cells, place_cells};
-ghost use Rattle.fit_table.specs.inner.TableColumns.{is_tabled};
+ghost use Rattle.fit_table.specs.inner.TableColumns.{AreNumbers, is_position, is_tabled};
 
-use crate::front::{Firsts, Front, put_first, write_byte};
-use crate::numbers::RecordNumbers;
+use crate::front::{Firsts, Front, put_first};
+use crate::numbers::in_bytes::NumbersInBytes;
+use fit_numbers::write_byte;
 use std::alloc::{AllocError, Global};
 
 /// How many bytes a row has at most, where what it begins with is short.
@@ -21,14 +21,14 @@ const ROW_SIZE: usize = 477;
 
 /// Writes the cell of the first field of this number.
 #[inline(always)]
-fn add_value<N: RecordNumbers>(row: &mut [u8], at: usize, numbers: &N, number: u8) -> usize
-    requires numbers { AreSome (N.are_of numbers.now) }
+fn add_value(row: &mut [u8], at: usize, numbers: &NumbersInBytes, number: u8) -> usize
+    requires numbers { AreSome (AreNumbers numbers.now) }
     requires tabled { is_tabled number ≡ true }
     requires room { at + 49 ≤ length row.old }
     ensures size { length row.new ≡ length row.old }
     ensures within { result ≤ at + 49 }
     ensures cell { (d : MessageDef Global) (v : Values Global) (t : Told)
-        → N.are_of numbers.now d v t
+        → AreNumbers numbers.now d v t
         → AddsCell (table.value_text d v number) (take at row.old) (take result row.new) }
 {
     let at = write_byte(row, at, b',');
@@ -37,14 +37,14 @@ fn add_value<N: RecordNumbers>(row: &mut [u8], at: usize, numbers: &N, number: u
 
 /// Writes the cell of the position in the first field of this number.
 #[inline(always)]
-fn add_position<N: RecordNumbers>(row: &mut [u8], at: usize, numbers: &N, number: u8) -> usize
-    requires numbers { AreSome (N.are_of numbers.now) }
-    requires tabled { is_tabled number ≡ true }
+fn add_position(row: &mut [u8], at: usize, numbers: &NumbersInBytes, number: u8) -> usize
+    requires numbers { AreSome (AreNumbers numbers.now) }
+    requires position { is_position number ≡ true }
     requires room { at + 49 ≤ length row.old }
     ensures size { length row.new ≡ length row.old }
     ensures within { result ≤ at + 49 }
     ensures cell { (d : MessageDef Global) (v : Values Global) (t : Told)
-        → N.are_of numbers.now d v t
+        → AreNumbers numbers.now d v t
         → AddsCell (table.degrees_text d v number) (take at row.old) (take result row.new) }
 {
     let at = write_byte(row, at, b',');
@@ -53,13 +53,13 @@ fn add_position<N: RecordNumbers>(row: &mut [u8], at: usize, numbers: &N, number
 
 /// Writes the cell of the altitude.
 #[inline(always)]
-fn add_altitude<N: RecordNumbers>(row: &mut [u8], at: usize, numbers: &N) -> usize
-    requires numbers { AreSome (N.are_of numbers.now) }
+fn add_altitude(row: &mut [u8], at: usize, numbers: &NumbersInBytes) -> usize
+    requires numbers { AreSome (AreNumbers numbers.now) }
     requires room { at + 49 ≤ length row.old }
     ensures size { length row.new ≡ length row.old }
     ensures within { result ≤ at + 49 }
     ensures cell { (d : MessageDef Global) (v : Values Global) (t : Told)
-        → N.are_of numbers.now d v t
+        → AreNumbers numbers.now d v t
         → AddsCell (or_else (table.value_text d v 78) (table.value_text d v 2))
         (take at row.old) (take result row.new) }
 {
@@ -73,13 +73,13 @@ fn add_altitude<N: RecordNumbers>(row: &mut [u8], at: usize, numbers: &N) -> usi
 
 /// Writes the cell of the distance.
 #[inline(always)]
-fn add_distance<N: RecordNumbers>(row: &mut [u8], at: usize, numbers: &N) -> usize
-    requires numbers { AreSome (N.are_of numbers.now) }
+fn add_distance(row: &mut [u8], at: usize, numbers: &NumbersInBytes) -> usize
+    requires numbers { AreSome (AreNumbers numbers.now) }
     requires room { at + 49 ≤ length row.old }
     ensures size { length row.new ≡ length row.old }
     ensures within { result ≤ at + 49 }
     ensures cell { (d : MessageDef Global) (v : Values Global) (t : Told)
-        → N.are_of numbers.now d v t
+        → AreNumbers numbers.now d v t
         → AddsCell (or_else (table.value_text d v 5)
         (option_map (λ n. table.amount_text (pos n) 16 0) t.distance))
         (take at row.old) (take result row.new) }
@@ -94,13 +94,13 @@ fn add_distance<N: RecordNumbers>(row: &mut [u8], at: usize, numbers: &N) -> usi
 
 /// Writes the cell of the speed.
 #[inline(always)]
-fn add_speed<N: RecordNumbers>(row: &mut [u8], at: usize, numbers: &N) -> usize
-    requires numbers { AreSome (N.are_of numbers.now) }
+fn add_speed(row: &mut [u8], at: usize, numbers: &NumbersInBytes) -> usize
+    requires numbers { AreSome (AreNumbers numbers.now) }
     requires room { at + 49 ≤ length row.old }
     ensures size { length row.new ≡ length row.old }
     ensures within { result ≤ at + 49 }
     ensures cell { (d : MessageDef Global) (v : Values Global) (t : Told)
-        → N.are_of numbers.now d v t
+        → AreNumbers numbers.now d v t
         → AddsCell (or_else (table.value_text d v 73) (or_else (table.value_text d v 6)
         (option_map (λ n. table.amount_text (pos n) 100 0) t.speed)))
         (take at row.old) (take result row.new) }
@@ -119,13 +119,13 @@ fn add_speed<N: RecordNumbers>(row: &mut [u8], at: usize, numbers: &N) -> usize
 
 /// Writes the cells of the position, the altitude and the distance.
 #[inline(never)]
-fn add_place<N: RecordNumbers>(row: &mut [u8], at: usize, numbers: &N) -> usize
-    requires numbers { AreSome (N.are_of numbers.now) }
+fn add_place(row: &mut [u8], at: usize, numbers: &NumbersInBytes) -> usize
+    requires numbers { AreSome (AreNumbers numbers.now) }
     requires room { at + 196 ≤ length row.old }
     ensures size { length row.new ≡ length row.old }
     ensures within { result ≤ at + 196 }
     ensures cells { (d : MessageDef Global) (v : Values Global) (t : Told)
-        → N.are_of numbers.now d v t
+        → AreNumbers numbers.now d v t
         → AddsCells (place_cells d v t) (take at row.old) (take result row.new) }
 {
     let at = add_position(row, at, numbers, 0);
@@ -136,13 +136,13 @@ fn add_place<N: RecordNumbers>(row: &mut [u8], at: usize, numbers: &N) -> usize
 
 /// Writes the cells of the speed, the heart rate, the cadence, the power and the temperature.
 #[inline(never)]
-fn add_effort<N: RecordNumbers>(row: &mut [u8], at: usize, numbers: &N) -> usize
-    requires numbers { AreSome (N.are_of numbers.now) }
+fn add_effort(row: &mut [u8], at: usize, numbers: &NumbersInBytes) -> usize
+    requires numbers { AreSome (AreNumbers numbers.now) }
     requires room { at + 245 ≤ length row.old }
     ensures size { length row.new ≡ length row.old }
     ensures within { result ≤ at + 245 }
     ensures cells { (d : MessageDef Global) (v : Values Global) (t : Told)
-        → N.are_of numbers.now d v t
+        → AreNumbers numbers.now d v t
         → AddsCells (effort_cells d v t) (take at row.old) (take result row.new) }
 {
     let at = add_speed(row, at, numbers);
@@ -154,11 +154,11 @@ fn add_effort<N: RecordNumbers>(row: &mut [u8], at: usize, numbers: &N) -> usize
 
 /// Writes the numbers of a row and the end of its line into bytes from a place on. Returns the place after them.
 #[inline(always)]
-fn add_numbers<N: RecordNumbers>(row: &mut [u8], at: usize, numbers: &N) -> usize
-    requires numbers { AreSome (N.are_of numbers.now) }
+fn add_numbers(row: &mut [u8], at: usize, numbers: &NumbersInBytes) -> usize
+    requires numbers { AreSome (AreNumbers numbers.now) }
     requires room { at + 442 ≤ length row.old }
     ensures cells { (d : MessageDef Global) (v : Values Global) (t : Told)
-        → N.are_of numbers.now d v t
+        → AreNumbers numbers.now d v t
         → EndsRow (place_cells d v t ++ effort_cells d v t)
         (take at row.old) (take result row.new) }
     ensures size { length row.new ≡ length row.old }
@@ -180,15 +180,15 @@ fn put_written(text: &mut Vec<u8>, row: &[u8], end: usize) -> Result<(), AllocEr
 }
 
 /// Puts the numbers of a row and the end of its line after a text, by bytes that they are written into first.
-fn put_numbers<N: RecordNumbers>(
+fn put_numbers(
     text: &mut Vec<u8>,
     row: &mut [u8],
-    numbers: &N,
+    numbers: &NumbersInBytes,
 ) -> Result<(), AllocError>
-    requires numbers { AreSome (N.are_of numbers.now) }
+    requires numbers { AreSome (AreNumbers numbers.now) }
     requires room { 477 ≤ length row.old }
     ensures { OnOk result ((d : MessageDef Global) (v : Values Global) (t : Told)
-        → N.are_of numbers.now d v t
+        → AreNumbers numbers.now d v t
         → EndsRow (place_cells d v t ++ effort_cells d v t) text.old.items text.new.items) }
 {
     let end = add_numbers(row, 0, numbers);
@@ -197,18 +197,18 @@ fn put_numbers<N: RecordNumbers>(
 
 /// Puts a row of which it is known what it begins with after a text, by bytes that it is written into first.
 #[inline(always)]
-fn put_begun<N: RecordNumbers>(
+fn put_begun(
     text: &mut Vec<u8>,
     row: &mut [u8],
     front: &Front,
     time: u32,
-    numbers: &N,
+    numbers: &NumbersInBytes,
 ) -> Result<(), AllocError>
-    requires numbers { AreSome (N.are_of numbers.now) }
+    requires numbers { AreSome (AreNumbers numbers.now) }
     requires minute { time / 60 ≡ front.now.1 }
     requires room { 477 ≤ length row.old }
     ensures { OnOk result ((d : MessageDef Global) (v : Values Global) (t : Told)
-        → N.are_of numbers.now d v t
+        → AreNumbers numbers.now d v t
         → EndsRow (place_cells d v t ++ effort_cells d v t)
         (text.old.items ++ (decimal front.now.0 ++ (44 ∷ instant_text time))) text.new.items) }
 {
@@ -238,16 +238,16 @@ impl TableRowMaker {
 /// Puts the row of a record message of a file after a text, and finds out what the rows of its minute begin with.
 #[cold]
 #[inline(never)]
-fn put_first_row<N: RecordNumbers>(
+fn put_first_row(
     text: &mut Vec<u8>,
     maker: &mut TableRowMaker,
     file: u64,
     time: Option<u32>,
-    numbers: &N,
+    numbers: &NumbersInBytes,
 ) -> Result<(), AllocError>
-    requires { AreSome (N.are_of numbers.now) }
+    requires { AreSome (AreNumbers numbers.now) }
     ensures { OnOk result ((d : MessageDef Global) (v : Values Global) (t : Told)
-        → N.are_of numbers.now d v t → time ≡ t.time
+        → AreNumbers numbers.now d v t → time ≡ t.time
         → HasRows (table.table_row file d v t ∷ []) text.old text.new) }
 {
     if time.is_some() {
@@ -262,16 +262,16 @@ fn put_first_row<N: RecordNumbers>(
 
 /// Puts the row of a record message of a file after a text, by its time and its numbers.
 #[inline(always)]
-pub(crate) fn put_row<N: RecordNumbers>(
+pub(crate) fn put_row(
     text: &mut Vec<u8>,
     maker: &mut TableRowMaker,
     file: u64,
     time: Option<u32>,
-    numbers: &N,
+    numbers: &NumbersInBytes,
 ) -> Result<(), AllocError>
-    requires { AreSome (N.are_of numbers.now) }
+    requires { AreSome (AreNumbers numbers.now) }
     ensures { OnOk result ((d : MessageDef Global) (v : Values Global) (t : Told)
-        → N.are_of numbers.now d v t → time ≡ t.time
+        → AreNumbers numbers.now d v t → time ≡ t.time
         → HasRows (table.table_row file d v t ∷ []) text.old text.new) }
 {
     if let Some((front, time)) = maker.firsts.front_of(file, time) {

@@ -5,31 +5,9 @@ ghost use Rattle.fit_texts.specs.Current.{NoneAreCurrent, Renews};
 pub(crate) mod developer;
 pub(crate) mod message;
 
-use fit_record::{FieldDef, MessageDef};
+use fit_record::{FieldDef, MessageDef, same_fields};
 use std::alloc::{AllocError, Global};
 use std::marker::Model;
-
-/// Whether two fields have the same number, size and base type.
-fn is_same(a: &FieldDef, b: &FieldDef) -> bool
-    ensures { IsTrue result → a.now ≡ b.now }
-{
-    a.number == b.number && a.size == b.size && a.code == b.code
-}
-
-/// Whether the fields are the same one by one.
-pub fn are_same(a: &[FieldDef], b: &[FieldDef]) -> bool
-    ensures { IsTrue result → a.now ≡ b.now }
-{
-    if a.len() != b.len() {
-        return false;
-    }
-    for (place, field) in a.iter().enumerate() {
-        if !is_same(field, &b[place]) {
-            return false;
-        }
-    }
-    true
-}
 
 /// A definition of a local message type, as far as the text around the values of its fields depends on it.
 #[derive(Drop)]
@@ -75,7 +53,7 @@ impl Kept {
     {
         self.local == local
             && self.global == definition.global
-            && are_same(self.fields.as_slice(), definition.fields.as_slice())
+            && same_fields(self.fields.as_slice(), definition.fields.as_slice())
     }
 }
 

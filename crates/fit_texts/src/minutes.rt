@@ -1,5 +1,5 @@
 //! The texts of times, by what the times of a minute have in common.
-ghost use Rattle.std.specs.Prelude.{◌≡◌, ◌≤◌, ◌+◌, ◌++◌, ◌/◌, ◌<◌, [], IfOk, IsTrue, OnOk, false, option_map, take, unwrap_or};
+ghost use Rattle.std.specs.Prelude.{◌≡◌, ◌≤◌, ◌+◌, ◌++◌, ◌/◌, ◌<◌, [], IfOk, IsTrue, OnOk, false, length, option_map, take, unwrap_or};
 ghost use Rattle.csv.specs.Writing.{default_writer, needs_quotes};
 ghost use Rattle.fit_texts.specs.InstantText.{instant_text};
 ghost use Rattle.fit_texts.specs.Minutes.{seconds_text};
@@ -18,6 +18,7 @@ pub const LAST_SYSTEM_MINUTE: u32 = 4_473_924;
 const MINUTE_ROOM: usize = 64;
 
 /// The digit of a number below ten.
+#[inline(always)]
 fn digit(n: u32) -> u8
     requires { n < 10 }
     ensures { result ≡ 48 + n }
@@ -33,15 +34,26 @@ fn put_seconds(text: &mut Vec<u8>, seconds: u32) -> Result<(), AllocError>
     text.extend_from_slice(&[digit(seconds / 10), digit(seconds % 10), b'Z'])
 }
 
-/// Writes the end of a time from its seconds on in a sheet. Returns the place after it.
+/// Writes the end of a time from its seconds on into bytes. Returns the place after it.
 #[inline(always)]
-fn write_seconds(sheet: &mut Sheet, at: usize, seconds: u32) -> usize
-    requires seconds { seconds < 60 }
-    requires room { at + 3 ≤ 1024 }
+pub fn write_seconds(bytes: &mut [u8], at: usize, seconds: u32) -> usize
+    requires small { seconds < 60 }
+    requires room { at + 3 ≤ length bytes.old }
+    ensures size { length bytes.new ≡ length bytes.old }
     ensures end { result ≡ at + 3 }
-    ensures text { take result sheet.new ≡ take at sheet.old ++ seconds_text seconds }
+    ensures text { take result bytes.new ≡ take at bytes.old ++ seconds_text seconds }
 {
-    write_text(sheet, at, &[digit(seconds / 10), digit(seconds % 10), b'Z'])
+    write_text(bytes, at, &[digit(seconds / 10), digit(seconds % 10), b'Z'])
+}
+
+/// Puts a time up to its seconds after a text.
+pub fn put_minute(text: &mut Vec<u8>, time: u32) -> Result<(), AllocError>
+    ensures { OnOk result (text.new.items ≡ text.old.items ++ take 17 (instant_text time)) }
+{
+    let end = text.len() + 17;
+    text.extend_from_slice(time_text(Some(time)).as_str().as_bytes())?;
+    text.truncate(end);
+    Ok(())
 }
 
 /// A minute of civil time.
@@ -71,8 +83,7 @@ impl Minute {
         ensures { IfOk result (λ m. m ≡ time / 60) }
     {
         let mut text = Vec::with_capacity(alloc, MINUTE_ROOM)?;
-        text.extend_from_slice(time_text(Some(time)).as_str().as_bytes())?;
-        text.truncate(17);
+        put_minute(&mut text, time)?;
         Ok(Minute {
             number: time / 60,
             text: Stamp::new(text)?,

@@ -14,10 +14,8 @@ use fit_decode::{Decoder, Event};
 use fit_encode::spell;
 use fit_frame::Header;
 use fit_profile::Stream;
-use fit_profile::laws::looking_back_is_learning;
 use fit_record::{MessageDef, Record};
 use fit_report::Report;
-use fit_report::laws::{heard_are_few, heard_records_fit};
 use std::alloc::{AllocError, Global};
 use std::marker::Model;
 
@@ -180,9 +178,6 @@ impl<M: TextMaker> Report for TextReport<M> {
     ghost line = { M.line };
 
     fn tell(&mut self, event: &Event, text: &mut Vec<u8>) -> Result<(), AllocError> {
-        heard_records_fit::<Global>();
-        heard_are_few::<Global>();
-        looking_back_is_learning::<Global>();
         match event {
             Event::Header(header, size) => self.take_header(text, header, *size),
             Event::Item(record_) => self.take_record(text, record_),

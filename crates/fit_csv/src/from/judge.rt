@@ -22,6 +22,7 @@ use fit_encode::SpelledFiles;
 use fit_numbers::laws::text_has_one_number;
 use fit_rows::MessageReader;
 use std::alloc::Global;
+use std::mem;
 
 /// Whether cells are those of the first line.
 fn are_first_line(cells: &Cells) -> bool
@@ -72,13 +73,12 @@ fn judge_row(
     }
 }
 
-/// The files of a chain of which that many rows have come, the first line too, where the text may end after them.
-fn whole_files(chain: Chain, rows: u64) -> Result<SpelledFiles, CsvFault>
+/// Whether the text may end after the rows of a chain, that many with the first line.
+fn check_end(chain: &Chain, rows: u64) -> Result<(), CsvFault>
     requires { rows < 2 ^ 63 }
-    ensures ok { IfOk result (λ files. (chain.current ≡ None) × (files ≡ chain.files)
-        × (0 < length files)) }
+    ensures ok { OnOk result ((chain.now.current ≡ None) × (0 < length chain.now.files)) }
     ensures err { IfErr result (λ fault. (fault ≡ CsvFault.BadRow (rows + 1))
-        × (chain.current ≡ None → 0 < length chain.files → ⊥)) }
+        × (chain.now.current ≡ None → 0 < length chain.now.files → ⊥)) }
 {
     if chain.current.is_some() {
         return Err(CsvFault::BadRow { row: rows + 1 });
@@ -86,7 +86,7 @@ fn whole_files(chain: Chain, rows: u64) -> Result<SpelledFiles, CsvFault>
     if chain.files.is_empty() {
         return Err(CsvFault::BadRow { row: rows + 1 });
     }
-    Ok(chain.files)
+    Ok(())
 }
 
 /// The rows of a text that were judged, and what judges the next ones.
@@ -294,24 +294,6 @@ impl RowJudge {
         }
     }
 
-    /// Judges the rows that are left of a text.
-    fn take_rest(mut self, whole: &[u8], left: &[u8]) -> Result<SpelledFiles, CsvFault>
-        requires { HasJudged whole.now left.now self.chain self.rows }
-        ensures ok { IfOk result (AreFilesOf whole.now) }
-        ensures err { IfErr result (IsTextFault whole.now) }
-    {
-        text_has_one_number();
-        let mut window = Window::new(self.values.alloc);
-        let mut left = left;
-        for _ in 0..whole.len() + 1 {
-            let Some(rest) = self.take_record_or_rows(&mut window, whole, left)? else {
-                return whole_files(self.chain, self.rows);
-            };
-            left = rest;
-        }
-        unreachable!()
-    }
-
     /// What is left of a text after the first line, where it begins with that.
     fn take_first_line<'a>(&mut self, text: &'a [u8]) -> Result<&'a [u8], CsvFault>
         ensures ok { IfOk result (λ left. (whole : List ℕ) → strip_bom whole ≡ text.now
@@ -332,6 +314,46 @@ impl RowJudge {
         }
         Ok(left)
     }
+
+    /// Judges the rows that are left of a text, which may end after them.
+    fn take_rest(&mut self, window: &mut Window, whole: &[u8], left: &[u8]) -> Result<(), CsvFault>
+        requires { HasJudged whole.now left.now self.old.chain self.old.rows }
+        ensures ok { OnOk result (AreFilesOf whole.now self.new.chain.files) }
+        ensures err { IfErr result (IsTextFault whole.now) }
+    {
+        text_has_one_number();
+        let mut left = left;
+        for _ in 0..whole.len() + 1 {
+            let Some(rest) = self.take_record_or_rows(window, whole, left)? else {
+                return check_end(&self.chain, self.rows);
+            };
+            left = rest;
+        }
+        unreachable!()
+    }
+
+    /// Judges all rows of a text, which may end after them.
+    fn take_all(&mut self, text: &[u8]) -> Result<(), CsvFault>
+        requires chain { self.old.chain ≡ nothing_yet }
+        requires rows { self.old.rows ≡ 1 }
+        ensures ok { OnOk result (AreFilesOf text.now self.new.chain.files) }
+        ensures err { IfErr result (IsTextFault text.now) }
+    {
+        let left = self.take_first_line(without_mark(text))?;
+        let mut window = Window::new(self.values.alloc);
+        self.take_rest(&mut window, text, left)
+    }
+}
+
+/// Judges all rows of a text, which may end after them, and hands out their files.
+fn judge_rows(alloc: Global, text: &[u8], files: &mut SpelledFiles) -> Result<(), CsvFault>
+    ensures ok { OnOk result (AreFilesOf text.now files.new) }
+    ensures err { IfErr result (IsTextFault text.now) }
+{
+    let mut judge = RowJudge::new(alloc);
+    let end = judge.take_all(text);
+    mem::swap(files, &mut judge.chain.files);
+    end
 }
 
 /// The files whose rows are those of a text, or the first fault of its rows.
@@ -339,7 +361,7 @@ pub(crate) fn judge(alloc: Global, text: &[u8]) -> Result<SpelledFiles, CsvFault
     ensures ok { IfOk result (AreFilesOf text.now) }
     ensures err { IfErr result (IsTextFault text.now) }
 {
-    let mut judge = RowJudge::new(alloc);
-    let left = judge.take_first_line(without_mark(text))?;
-    judge.take_rest(text, left)
+    let mut files = SpelledFiles::new(alloc);
+    judge_rows(alloc, text, &mut files)?;
+    Ok(files)
 }

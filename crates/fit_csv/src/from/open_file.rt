@@ -34,7 +34,6 @@ pub(crate) enum Part {
 }
 
 /// A file of which not all rows have come.
-#[derive(Drop)]
 pub(crate) struct OpenFile {
     pub header: Header,
     /// The records that are whole.
@@ -42,6 +41,18 @@ pub(crate) struct OpenFile {
     /// What these records have defined and told, as the rows of data messages need it.
     pub before: Stream,
     pub part: Part,
+}
+
+// A call wherever a file is dropped: derived, all that it frees would be written out and proved there.
+impl Drop for OpenFile {
+    fn drop(self) {
+        let OpenFile {
+            header: _,
+            records: _records,
+            before: _before,
+            part: _part,
+        } = self;
+    }
 }
 
 /// Takes the first row of a definition.
@@ -112,6 +123,20 @@ fn next_part(
 }
 
 impl OpenFile {
+    /// A record is whole. It is freed by what calls this.
+    #[inline(always)]
+    fn add(&mut self, r: &Record) -> Result<(), Misfit>
+        requires same_records { self.old.before ≡ reverse self.old.records }
+        requires fits { Fits (known self.old.before) r.now }
+        ensures ok { OnOk result (self.new ≡ with_record self.old r.now) }
+        ensures err { IfErr result (λ misfit. misfit ≡ Misfit.NoMemory) }
+    {
+        self.part = Part::Nothing;
+        self.records.push(self.before.env(), r)?;
+        self.before.take(r)?;
+        Ok(())
+    }
+
     /// A record is whole.
     pub(crate) fn add_record(&mut self, r: Record) -> Result<(), Misfit>
         requires same_records { self.old.before ≡ reverse self.old.records }
@@ -119,10 +144,7 @@ impl OpenFile {
         ensures ok { OnOk result (self.new ≡ with_record self.old r) }
         ensures err { IfErr result (λ misfit. misfit ≡ Misfit.NoMemory) }
     {
-        self.part = Part::Nothing;
-        self.records.push(self.before.env(), &r)?;
-        self.before.take(&r)?;
-        Ok(())
+        self.add(&r)
     }
 
     /// A data message is whole, which these bytes are.

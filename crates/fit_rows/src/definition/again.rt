@@ -5,8 +5,7 @@ ghost use Rattle.fit_rows.specs.ChainRows as rows;
 
 use crate::definition::put_definition;
 use fit_base::{Entries, Order};
-use fit_record::{DevDef, MessageDef};
-use fit_texts::are_same;
+use fit_record::{DevDef, MessageDef, same_fields};
 use std::alloc::{AllocError, Global};
 use std::marker::Model;
 
@@ -161,7 +160,7 @@ impl KeptRows {
             && own.global == definition.global
             && own.reserved == definition.reserved
             && own.order == definition.order
-            && are_same(own.fields.as_slice(), definition.fields.as_slice())
+            && same_fields(own.fields.as_slice(), definition.fields.as_slice())
             && have_same_devs(&own.dev, &definition.dev)
     }
 

@@ -4,17 +4,17 @@ use fit_base::Order;
 use fit_frames::after;
 use std::alloc::Global;
 
-/// The number of at most three digits with which a text may begin, where it does with a digit, and how many they are.
-pub(crate) fn likely_short_number(text: &[u8]) -> (Option<u8>, usize) {
+/// The number of at most three digits with which a text may begin, where it does with a digit.
+pub(crate) fn likely_short_number(text: &[u8]) -> Option<u8> {
     let mut number = None;
     for (place, byte) in text.iter().enumerate() {
         let digit = byte.wrapping_sub(b'0');
         if digit >= 10 || place >= 3 {
-            return (number, place);
+            return number;
         }
         number = Some(number.unwrap_or(0u8).wrapping_mul(10).wrapping_add(digit));
     }
-    (number, 0)
+    number
 }
 
 /// The record header that a data message of this local message type and time offset may have.
@@ -38,7 +38,7 @@ impl Template {
         text: &'a [u8],
     ) -> Option<&'a [u8]> {
         let after_front = text.get(self.front.len()..)?;
-        let (offset, _) = likely_short_number(after_front);
+        let offset = likely_short_number(after_front);
         let mut rest = match offset {
             Some(_) => after(after_front, b'\n')?,
             None => text.get(self.line.len()..)?,

@@ -1,18 +1,15 @@
 -- How the cells of the table are put together. No public contract names these.
-use Rattle.std.specs.Prelude.{◌≡◌, ℕ, Bool, List, [], ◌∷◌, ◌++◌, Vec, is_some, map, option_map, true, unwrap_or, Option, None, Some, pos}
+use Rattle.std.specs.Prelude.{◌≡◌, ℕ, Bool, List, [], ◌∷◌, ◌++◌, is_some, map, option_map, unwrap_or, Option, pos}
 use Rattle.std.specs.Global.{Global}
 use Rattle.csv.specs.Writing.{default_writer, fields_text}
 use Rattle.fit_record.specs.Faults.{or_else}
 use Rattle.fit_record.specs.declared.definition.MessageDef.{MessageDef}
-use Rattle.fit_record.specs.declared.message.Record.{Record}
 use Rattle.fit_record.specs.declared.message.Values.{Values}
 use Rattle.fit_profile.specs.declared.told.Told.{Told}
 use Rattle.fit_numbers.specs.declared.decimal.Fixed.{Fixed}
-use Rattle.fit_profile.specs.declared.message.Message.{Message}
 use Rattle.fit_numbers.specs.FixedText.{fixed_text}
-use Rattle.fit_profile.specs.Meant.{shown}
-use Rattle.fit_cells.specs.Rows.{Cell, HasRows, Row}
-use Rattle.fit_table.specs.Table.{amount_text, degrees_text, table_message_rows, table_row, value_text}
+use Rattle.fit_cells.specs.Rows.{Cell}
+use Rattle.fit_table.specs.Table.{amount_text, degrees_text, value_text}
 
 -- the text of a number, where there is one
 abbrev pub shown_text : Option Fixed → Option Cell
@@ -48,12 +45,3 @@ effort_cells d v t =
 -- There is a record message of a definition and with values that tells something, of which this holds.
 abbrev pub AreSome : (MessageDef Global → Values Global → Told → Type 0) → Type 0
 AreSome Are = (d : MessageDef Global) × (v : Values Global) × (t : Told) × Are d v t
-
--- If a row was put after a text, it is the row of this message after these records in the file of this number.
-abbrev pub MayPutRow : ℕ → List (Record Global) → Values Global → Bool → Vec ℕ Global → Vec ℕ Global → Type 0
-MayPutRow file before v put old new = put ≡ true → HasRows (table_message_rows file before v) old new
-
--- the row of a record message in the file of this number, or none
-abbrev pub rows_in : {A : Type 0} → ℕ → Option (Message A) → List Row
-rows_in file None = []
-rows_in file (Some m) = table_row file (shown m).definition (shown m).values (shown m).told ∷ []

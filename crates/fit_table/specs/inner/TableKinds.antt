@@ -2,13 +2,12 @@
 use Rattle.std.specs.Prelude.{◌≡◌, ℕ, false, true}
 use Rattle.fit_cells.specs.declared.form.NumberForm.{NumberForm}
 use Rattle.fit_table.specs.declared.kinds.Kind.{Kind}
-use Rattle.fit_table.specs.declared.kinds.Kind.TheVariants.{Other, Semicircles, Byte, SignedByte, Short, ShortHeight, LongHeight}
+use Rattle.fit_table.specs.declared.kinds.Kind.TheVariants.{Other, Byte, SignedByte, Short, ShortHeight, LongHeight}
 use Rattle.fit_table.specs.declared.kinds.Kind.TheVariants.{ShortThousandths, LongThousandths, LongHundredths}
 
 -- the code of the base type
 abbrev pub kind_code : Kind → ℕ
 kind_code Other = 0x00
-kind_code Semicircles = 0x85
 kind_code Byte = 0x02
 kind_code SignedByte = 0x01
 kind_code Short = 0x84
@@ -21,7 +20,6 @@ kind_code LongHundredths = 0x86
 -- how the numbers are shown
 abbrev pub kind_form : Kind → NumberForm
 kind_form Other = record { signed = false; width = 1; invalid = 0xFF; factor = 1; shift = 0; decimals = 0 }
-kind_form Semicircles = record { signed = true; width = 4; invalid = 0x7FFFFFFF; factor = 1; shift = 0; decimals = 0 }
 kind_form Byte = record { signed = false; width = 1; invalid = 0xFF; factor = 1; shift = 0; decimals = 0 }
 kind_form SignedByte = record { signed = true; width = 1; invalid = 0x7F; factor = 1; shift = 0; decimals = 0 }
 kind_form Short = record { signed = false; width = 2; invalid = 0xFFFF; factor = 1; shift = 0; decimals = 0 }

@@ -1,13 +1,18 @@
 //! The numbers of record messages in their bytes, put in cells of the table.
-ghost use Rattle.std.specs.Prelude.{◌≡◌, ◌≤◌, ◌+◌, false, length, option_map, take};
-ghost use Rattle.fit_table.specs.inner.TableColumns.{AreInBytes, IsKnown, PutsPosition, PutsValue};
+ghost use Rattle.std.specs.Prelude.{◌≡◌, ◌≤◌, ◌+◌, false, length, option_map, pos, take, true};
+ghost use Rattle.std.specs.Global.{Global};
+ghost use Rattle.fit_record.specs.declared.definition.MessageDef.{MessageDef};
+ghost use Rattle.fit_record.specs.declared.message.Values.{Values};
+ghost use Rattle.fit_profile.specs.declared.told.Told.{Told};
+ghost use Rattle.fit_table.specs.Table as table;
+ghost use Rattle.fit_table.specs.inner.TableCells.{AreSome, PutsCell};
+ghost use Rattle.fit_table.specs.inner.TableColumns.{AreNumbers, IsIn, IsKnown, PutsValue, is_position, is_tabled};
 
-use crate::amounts::{Amounts, write_told};
+use crate::amounts::Amounts;
 use crate::columns::{Column, Place, Places};
 use crate::kinds::Kind;
-use crate::numbers::{RecordNumbers, semicircles, write_degrees};
+use crate::numbers::{semicircles, write_degrees, write_number};
 use fit_base::Order;
-use fit_base::base_type::SINT32;
 use fit_cells::write_formed;
 
 /// Writes the number of the field at a place in the bytes of a message, where it is valid. Returns whether it is, and
@@ -21,7 +26,7 @@ fn write_value_at(
     bytes: &[u8],
 ) -> (bool, usize)
     requires known { IsKnown place.now }
-    requires within { place.now.offset + place.now.field.size ≤ length bytes.now }
+    requires spot { IsIn place.now.spot bytes.now }
     requires room { at + 48 ≤ length row.old }
     ensures size { length row.new ≡ length row.old }
     ensures within { result.1 ≤ at + 48 }
@@ -29,7 +34,7 @@ fn write_value_at(
     ensures cell { PutsValue place.now order bytes.now result.0
         (take at row.old) (take result.1 row.new) }
 {
-    let bits = place.bits(order, bytes);
+    let bits = place.spot.bits(place.form.width, order, bytes);
     if bits == place.form.invalid {
         return (false, at);
     }
@@ -46,7 +51,7 @@ fn write_other_at(
     bytes: &[u8],
 ) -> (bool, usize)
     requires known { IsKnown place.now }
-    requires within { place.now.offset + place.now.field.size ≤ length bytes.now }
+    requires spot { IsIn place.now.spot bytes.now }
     requires room { at + 48 ≤ length row.old }
     ensures size { length row.new ≡ length row.old }
     ensures within { result.1 ≤ at + 48 }
@@ -68,7 +73,7 @@ fn write_placed(
     bytes: &[u8],
 ) -> (bool, usize)
     requires known { IsKnown place.now }
-    requires within { place.now.offset + place.now.field.size ≤ length bytes.now }
+    requires spot { IsIn place.now.spot bytes.now }
     requires room { at + 48 ≤ length row.old }
     ensures size { length row.new ≡ length row.old }
     ensures within { result.1 ≤ at + 48 }
@@ -83,77 +88,6 @@ fn write_placed(
     write_other_at(row, at, place, order, bytes)
 }
 
-/// Writes the position in the field at a place in the bytes of a message, where that is of the base type sint32 and
-/// valid. Returns whether it is, and the place after it.
-#[inline(always)]
-fn write_position_at(
-    row: &mut [u8],
-    at: usize,
-    place: &Place,
-    order: Order,
-    bytes: &[u8],
-) -> (bool, usize)
-    requires known { IsKnown place.now }
-    requires within { place.now.offset + place.now.field.size ≤ length bytes.now }
-    requires room { at + 48 ≤ length row.old }
-    ensures size { length row.new ≡ length row.old }
-    ensures within { result.1 ≤ at + 48 }
-    ensures none { result.0 ≡ false → result.1 ≡ at }
-    ensures cell { PutsPosition place.now order bytes.now result.0
-        (take at row.old) (take result.1 row.new) }
-{
-    if place.field.code != SINT32 {
-        return (false, at);
-    }
-    let bits = place.bits(order, bytes);
-    write_degrees(row, at, semicircles(place.form.width, bits))
-}
-
-/// Writes the position at a place as `write_position_at` does, and isn't inlined.
-#[inline(never)]
-fn write_other_position(
-    row: &mut [u8],
-    at: usize,
-    place: &Place,
-    order: Order,
-    bytes: &[u8],
-) -> (bool, usize)
-    requires known { IsKnown place.now }
-    requires within { place.now.offset + place.now.field.size ≤ length bytes.now }
-    requires room { at + 48 ≤ length row.old }
-    ensures size { length row.new ≡ length row.old }
-    ensures within { result.1 ≤ at + 48 }
-    ensures none { result.0 ≡ false → result.1 ≡ at }
-    ensures cell { PutsPosition place.now order bytes.now result.0
-        (take at row.old) (take result.1 row.new) }
-{
-    write_position_at(row, at, place, order, bytes)
-}
-
-/// Writes the position at a place, where most recordings have positions of the usual kind.
-#[inline(always)]
-fn write_placed_position(
-    row: &mut [u8],
-    at: usize,
-    place: &Place,
-    order: Order,
-    bytes: &[u8],
-) -> (bool, usize)
-    requires known { IsKnown place.now }
-    requires within { place.now.offset + place.now.field.size ≤ length bytes.now }
-    requires room { at + 48 ≤ length row.old }
-    ensures size { length row.new ≡ length row.old }
-    ensures within { result.1 ≤ at + 48 }
-    ensures none { result.0 ≡ false → result.1 ≡ at }
-    ensures cell { PutsPosition place.now order bytes.now result.0
-        (take at row.old) (take result.1 row.new) }
-{
-    if place.kind == Kind::Semicircles {
-        return write_position_at(row, at, &place.of_kind(Kind::Semicircles), order, bytes);
-    }
-    write_other_position(row, at, place, order, bytes)
-}
-
 /// The numbers of a record message in its bytes, and what it tells of a distance to accumulate, where it may have one.
 #[derive(Drop)]
 pub(crate) struct NumbersInBytes<'a> {
@@ -163,38 +97,86 @@ pub(crate) struct NumbersInBytes<'a> {
     pub amounts: Option<&'a Amounts>,
 }
 
-impl<'a> RecordNumbers for NumbersInBytes<'a> {
-    ghost are_of = { λ n d v t. AreInBytes n.places.now n.order n.bytes.now
-        (option_map (λ a. a.now) n.amounts) d v t };
-
+impl<'a> NumbersInBytes<'a> {
+    /// Writes the number of the first field of this number into the bytes of a row from a place on. Returns whether there
+    /// is one, and the place after it.
     #[inline(always)]
-    fn write_value(&self, row: &mut [u8], at: usize, number: u8) -> (bool, usize) {
+    pub(crate) fn write_value(&self, row: &mut [u8], at: usize, number: u8) -> (bool, usize)
+        requires numbers { AreSome (AreNumbers self.now) }
+        requires tabled { is_tabled number ≡ true }
+        requires room { at + 48 ≤ length row.old }
+        ensures size { length row.new ≡ length row.old }
+        ensures within { result.1 ≤ at + 48 }
+        ensures none { result.0 ≡ false → result.1 ≡ at }
+        ensures cell { (d : MessageDef Global) (v : Values Global) (t : Told)
+            → AreNumbers self.now d v t
+            → PutsCell (table.value_text d v number)
+            result.0 (take at row.old) (take result.1 row.new) }
+    {
         match self.places.column(number) {
-            Column::Absent => (false, at),
             Column::At(place) => write_placed(row, at, number, place, self.order, self.bytes),
-        }
-    }
-
-    #[inline(always)]
-    fn write_position(&self, row: &mut [u8], at: usize, number: u8) -> (bool, usize) {
-        match self.places.column(number) {
             Column::Absent => (false, at),
-            Column::At(place) => write_placed_position(row, at, place, self.order, self.bytes),
+            Column::Wide(spot) => write_number(row, at, spot.value(number, self.order, self.bytes)),
         }
     }
 
+    /// Writes the position in the first field of this number in the same way.
     #[inline(always)]
-    fn write_distance(&self, row: &mut [u8], at: usize) -> (bool, usize) {
-        match self.amounts {
-            Some(amounts) => write_told(row, at, amounts.distance),
+    pub(crate) fn write_position(&self, row: &mut [u8], at: usize, number: u8) -> (bool, usize)
+        requires numbers { AreSome (AreNumbers self.now) }
+        requires position { is_position number ≡ true }
+        requires room { at + 48 ≤ length row.old }
+        ensures size { length row.new ≡ length row.old }
+        ensures within { result.1 ≤ at + 48 }
+        ensures none { result.0 ≡ false → result.1 ≡ at }
+        ensures cell { (d : MessageDef Global) (v : Values Global) (t : Told)
+            → AreNumbers self.now d v t
+            → PutsCell (table.degrees_text d v number)
+            result.0 (take at row.old) (take result.1 row.new) }
+    {
+        match self.places.position(number) {
+            Some(spot) => {
+                let bits = spot.bits(4, self.order, self.bytes);
+                write_degrees(row, at, semicircles(bits))
+            }
             None => (false, at),
         }
     }
 
+    /// Writes the accumulated distance in the same way.
     #[inline(always)]
-    fn write_speed(&self, row: &mut [u8], at: usize) -> (bool, usize) {
+    pub(crate) fn write_distance(&self, row: &mut [u8], at: usize) -> (bool, usize)
+        requires numbers { AreSome (AreNumbers self.now) }
+        requires room { at + 48 ≤ length row.old }
+        ensures size { length row.new ≡ length row.old }
+        ensures within { result.1 ≤ at + 48 }
+        ensures none { result.0 ≡ false → result.1 ≡ at }
+        ensures cell { (d : MessageDef Global) (v : Values Global) (t : Told)
+            → AreNumbers self.now d v t
+            → PutsCell (option_map (λ n. table.amount_text (pos n) 16 0) t.distance)
+            result.0 (take at row.old) (take result.1 row.new) }
+    {
         match self.amounts {
-            Some(amounts) => write_told(row, at, amounts.speed),
+            Some(amounts) => write_number(row, at, amounts.distance),
+            None => (false, at),
+        }
+    }
+
+    /// Writes the speed in compressed_speed_distance in the same way.
+    #[inline(always)]
+    pub(crate) fn write_speed(&self, row: &mut [u8], at: usize) -> (bool, usize)
+        requires numbers { AreSome (AreNumbers self.now) }
+        requires room { at + 48 ≤ length row.old }
+        ensures size { length row.new ≡ length row.old }
+        ensures within { result.1 ≤ at + 48 }
+        ensures none { result.0 ≡ false → result.1 ≡ at }
+        ensures cell { (d : MessageDef Global) (v : Values Global) (t : Told)
+            → AreNumbers self.now d v t
+            → PutsCell (option_map (λ n. table.amount_text (pos n) 100 0) t.speed)
+            result.0 (take at row.old) (take result.1 row.new) }
+    {
+        match self.amounts {
+            Some(amounts) => write_number(row, at, amounts.speed),
             None => (false, at),
         }
     }

@@ -5,13 +5,11 @@ use Rattle.fit_profile.proofs.learn.define.Goals as goal
 pub put-requires : goal.put-requires
 put-requires c = (omega arith, (subst (Fits c.args.env.now) c.requires.is c.requires.fits).local)
 
-pub returns-clause-naming : goal.returns-clause-naming
-returns-clause-naming c index number =
-    let before = naming_in c.args.names.now index number in
-    c.put.ensures.naming index number ∙ sym (ap (λ r. naming_after c.args.env.now r index number before) c.requires.is)
-
-pub returns-clause-namings : goal.returns-clause-namings
-returns-clause-namings c local =
-    let before = namings_in c.args.names.now local in
-    one-definition (naming_in c.args.names.now) c.args.record_.now c.args.definition.now local before before (namings_in c.put.new.self local)
-    c.in_ok-namings.namings c.requires.is c.in_ok-namings.ensures refl (c.put.ensures.namings local)
+pub returns-clause-names : goal.returns-clause-names
+returns-clause-names c =
+    let names = c.args.names.now in (
+      λ index number. c.put.ensures.naming index number
+          ∙ sym (ap (λ r. naming_after c.args.env.now r index number (naming_in names index number)) c.requires.is),
+      λ local. one-definition (naming_in names) c.args.record_.now c.args.definition.now local (namings_in names local) (namings_in names local)
+          (namings_in c.put.new.self local) c.in_ok-namings.namings c.requires.is c.in_ok-namings.ensures refl (c.put.ensures.namings local),
+    )

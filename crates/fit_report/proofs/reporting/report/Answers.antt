@@ -3,6 +3,12 @@ use Rattle.fit_report.proofs.Common.{channel}
 use Rattle.fit_report.proofs.Chains.{hears_chain, reports_chain}
 use Rattle.fit_report.proofs.reporting.report.Goals as goal
 
+pub tell_pieces-requires-clause-fresh : goal.tell_pieces-requires-clause-fresh
+tell_pieces-requires-clause-fresh g c = c.new-telling.ensures
+
+pub tell_pieces-requires-clause-heard : goal.tell_pieces-requires-clause-heard
+tell_pieces-requires-clause-heard g c = c.requires
+
 pub returns-clause-chain : goal.returns-clause-chain
 returns-clause-chain g c = λ fs b input are chain.
     reports_chain g.R.Report.line fs b are chain g.R.Report.has_heard c.tell_pieces.new.reporter

@@ -11,18 +11,18 @@ use Rattle.fit_report.proofs.reporting.tell_pieces.Goals as goal
 
 pub pieces-init : goal.pieces-init
 pieces-init g c =
-    let none = ap (λ (t : ToldSoFar). t.seen.bytes) c.new-telling.ensures in
+    let none = ap (λ (t : ToldSoFar). t.seen.bytes) c.requires.fresh in
     let start = g.K.Sink.contents c.args.sink.now in
     record {
-      fresh = ap (λ (t : ToldSoFar). t.seen.refusal) c.new-telling.ensures;
+      fresh = ap (λ (t : ToldSoFar). t.seen.refusal) c.requires.fresh;
       viable = subst (IsViable Global chain_limit) (sym none) (nothing_viable Global);
       counted = ap length (sym none);
       eaten = subst (Consumes (g.S.Source.remaining c.args.source.now) (g.S.Source.remaining c.args.source.now)) (sym none)
           (Consumes-nothing (g.S.Source.remaining c.args.source.now));
       works = λ good. good;
-      stands = subst (Stands g.R.Report.has_heard g.R.Report.line c.args.reporter.now c.new-telling.result.seen.bytes [] start start)
-          (sym (ap (λ (t : ToldSoFar). t.written) c.new-telling.ensures))
-          (stands_before g.R.Report.has_heard g.R.Report.line c.args.reporter.now c.new-telling.result.seen.bytes start none c.requires);
+      stands = subst (Stands g.R.Report.has_heard g.R.Report.line c.args.reporter.now c.args.telling.now.seen.bytes [] start start)
+          (sym (ap (λ (t : ToldSoFar). t.written) c.requires.fresh))
+          (stands_before g.R.Report.has_heard g.R.Report.line c.args.reporter.now c.args.telling.now.seen.bytes start none c.requires.heard);
     }
 
 pub returns-in_err-finish-clause-reports : goal.returns-in_err-finish-clause-reports

@@ -22,8 +22,8 @@ returns-in_err-used-clause-passes g c =
       );
     }))
 
-pub tell-requires : goal.tell-requires
-tell-requires g c =
+pub tell_event-requires : goal.tell_event-requires
+tell_event-requires g c =
     let s = c.requires.told.2 in
     let fed = c.in_ok-used.ensures in (
       s.heard,
@@ -49,9 +49,9 @@ returns-clause-passes g c = λ told start s.
     (record { more = fed.more; event = fed.event }) s.are in
     let heard : AreHeard (hear event s.heard) = (c.feed.new.self.bytes, fed.viable, are) in
     stands_on (channel g.K.Sink.contents g.K.Sink.has_failed c.args.sink.now c.put_text.new.sink) s (hear event s.heard) c.as_slice.result.now
-    (text_told g.R.Report.line s.heard event c.clear.new.self.items c.tell.new.text.items c.as_slice.result.now c.clear.ensures.items
+    (text_told g.R.Report.line s.heard event c.clear.new.self.items c.tell_event.new.text.items c.as_slice.result.now c.clear.ensures.items
     (c.in-Ok.ensures.text s.heard s.has heard) c.as_slice.ensures.value)
-    c.tell.new.self c.feed.new.self.bytes c.put_text.new.written (c.in-Ok.ensures.heard s.heard s.has heard) are c.in_ok-put_text.ensures.puts
+    c.tell_event.new.reporter c.feed.new.self.bytes c.put_text.new.written (c.in-Ok.ensures.heard s.heard s.has heard) are c.in_ok-put_text.ensures.puts
 
 pub returns-in_err-put_text-clause-passes : goal.returns-in_err-put_text-clause-passes
 returns-in_err-put_text-clause-passes g c =
@@ -62,9 +62,9 @@ returns-in_err-put_text-clause-passes g c =
     let are = heard_next c.args.decoder.now c.feed.new.self c.args.piece.now c.in_ok-used.field-0.used s.heard event fed.used.1
     (record { more = fed.more; event = fed.event }) s.are in
     stops_in (channel g.K.Sink.contents g.K.Sink.has_failed c.args.sink.now c.put_text.new.sink) s (hear event s.heard) c.as_slice.result.now
-    (text_told g.R.Report.line s.heard event c.clear.new.self.items c.tell.new.text.items c.as_slice.result.now c.clear.ensures.items
+    (text_told g.R.Report.line s.heard event c.clear.new.self.items c.tell_event.new.text.items c.as_slice.result.now c.clear.ensures.items
     (c.in-Ok.ensures.text s.heard s.has (c.feed.new.self.bytes, fed.viable, are)) c.as_slice.ensures.value)
-    c.tell.new.self c.args.piece.now c.in_ok-used.field-0.used c.put_text.new.written c.in_err-put_text.field-0.0
+    c.tell_event.new.reporter c.args.piece.now c.in_ok-used.field-0.used c.put_text.new.written c.in_err-put_text.field-0.0
     (subst (IsViable Global chain_limit) (ap (λ (v : Seen). v.bytes) fed.used.1) fed.viable)
     (subst (λ b. AreEvents b (reverse (hear event s.heard))) (ap (λ (v : Seen). v.bytes) fed.used.1) are) c.in_err-put_text.ensures.puts)
 
@@ -75,10 +75,10 @@ returns-in-More-clause-passes g c = λ told start s.
     (heard_more c.args.decoder.now c.feed.new.self c.args.piece.now c.in_ok-used.field-0.used c.in_ok-used.field-0.event c.in-More.is fed.used.1
     (record { more = fed.more; event = fed.event })) s
 
-pub returns-in_default-tell-clause-passes : goal.returns-in_default-tell-clause-passes
-returns-in_default-tell-clause-passes g c = λ told start s.
+pub returns-in_default-tell_event-clause-passes : goal.returns-in_default-tell_event-clause-passes
+returns-in_default-tell_event-clause-passes g c = λ told start s.
     let fed = c.in_ok-used.ensures in
-    stops_before c.args.decoder.now c.args.piece.now (channel g.K.Sink.contents g.K.Sink.has_failed c.args.sink.now c.args.sink.now) s c.tell.new.self
+    stops_before c.args.decoder.now c.args.piece.now (channel g.K.Sink.contents g.K.Sink.has_failed c.args.sink.now c.args.sink.now) s c.tell_event.new.reporter
     (not_told c.args.decoder.now c.feed.new.self c.args.piece.now c.in_ok-used.field-0.used c.in_ok-used.field-0.event c.in_default.not-More fed.used.1
     fed.used.0 (record { more = fed.more; event = fed.event }) fed.viable)
 

@@ -1,13 +1,13 @@
 use Rattle.fit_step.proofs.Common.{◌∙◌, ◌+◌, ap, arith, length, length-append, refl}
 use Rattle.fit_step.proofs.ReadDefinitions.{field_more}
-use Rattle.fit_step.proofs.Exits.{no_result}
+use Rattle.std.proofs.lemmas.Result.{IfOk-from_err}
 use Rattle.fit_step.proofs.read_definition.read_fields.Goals as goal
 
 pub returns-in_err-fields : goal.returns-in_err-fields
-returns-in_err-fields g c = no_result c.from_residual.result c.from_residual.ensures.0 _
+returns-in_err-fields g c = IfOk-from_err c.from_residual.result _ c.from_residual.ensures.0
 
 pub returns-in_err-push : goal.returns-in_err-push
-returns-in_err-push g c = no_result c.from_residual-in_err-push.result c.from_residual-in_err-push.ensures.0 _
+returns-in_err-push g c = IfOk-from_err c.from_residual-in_err-push.result _ c.from_residual-in_err-push.ensures.0
 
 pub loop-preserved : goal.loop-preserved
 loop-preserved g c =

@@ -1,15 +1,18 @@
 use Rattle.fit_step.proofs.Common.{sym, subst, Data, Ok, Some, arith, ◌+◌, ◌-◌, length, refl}
 use Rattle.fit_record.specs.MessageBytes.{message_in}
-use Rattle.fit_step.proofs.Exits.{no_result, on_error}
+use Rattle.std.proofs.lemmas.Result.{err_from_is_err_and}
 use Rattle.fit_step.proofs.ReadBytes.{whole_at_front}
 use Rattle.fit_step.specs.InProgress.{Reads}
 use Rattle.fit_step.proofs.record_reader.read_message.Goals as goal
 
+pub values-requires : goal.values-requires
+values-requires g c = record { sound = c.in-Some.ensures.plain.sound; size = c.in-Some.ensures.plain.size }
+
 pub overflow_cast-position : goal.overflow_cast-position
-overflow_cast-position g c = omega (arith, c.in-Some.ensures.left)
+overflow_cast-position g c = omega (arith, c.in-Some.ensures.plain.left)
 
 pub overflow_sub-position : goal.overflow_sub-position
-overflow_sub-position g c = omega (arith, c.in-Some.ensures.left)
+overflow_sub-position g c = omega (arith, c.in-Some.ensures.plain.left)
 
 pub returns : goal.returns
 returns g c =
@@ -17,7 +20,7 @@ returns g c =
     let p = c.args.position.now in
     let idle = c.args.in_progress.now in
     let m = c.in-Some.message in
-    let told = c.in-Some.ensures in
+    let told = c.in-Some.ensures.plain in
     let used = 1 + length m.body.now in
     record {
       reads = subst (λ v. Reads e p idle e (record p { room = p.room - used }) idle c.args.piece.now used (Ok (Some (Data v)))) (sym c.in_ok-values.ensures)
@@ -26,7 +29,7 @@ returns g c =
       left = omega (arith, told.left);
       none = tt;
       err = tt;
-      whole = told.whole;
+      whole = c.in-Some.ensures.whole;
     }
 
 pub returns-in_default : goal.returns-in_default
@@ -41,12 +44,5 @@ returns-in_default g c = record {
 
 pub returns-in_err-values : goal.returns-in_err-values
 returns-in_err-values g c =
-    let holds = no_result c.from_residual.result c.from_residual.ensures.0 in
-    record {
-      reads = holds _;
-      message = holds _;
-      left = holds _;
-      none = holds _;
-      err = on_error c.from_residual.result c.from_residual.ensures.0 refl;
-      whole = λ idle size has large. holds _;
-    }
+    let p = err_from_is_err_and c.from_residual.result c.from_residual.ensures.1 in
+    rw p.1 (record { reads = tt; message = tt; left = tt; none = tt; err = refl; whole = λ idle size has large. tt })

@@ -1,5 +1,5 @@
 use Rattle.fit_step.proofs.Common.{◌+◌, ap, ◌∙◌, subst, sym, refl, length, take, flat_map, field_bytes, Define, DefinitionFits, IsRecord, arith}
-use Rattle.fit_step.proofs.Exits.{no_result, on_error}
+use Rattle.std.proofs.lemmas.Result.{err_from_is_err_and}
 use Rattle.fit_step.proofs.ReadBytes.{whole_at_front}
 use Rattle.fit_step.proofs.ReadDefinitions.{definition_stands, read_fits, read_is_record}
 use Rattle.fit_step.proofs.SkippedRecords.{plain_stands}
@@ -70,25 +70,17 @@ returns-in_default g c = record {
 
 pub returns-in_err-read_fields : goal.returns-in_err-read_fields
 returns-in_err-read_fields g c =
-    let holds = no_result c.from_residual.result c.from_residual.ensures.0 in
-    record {
-      reads = holds _;
-      definition = holds _;
-      left = holds _;
-      none = holds _;
-      err = on_error c.from_residual.result c.from_residual.ensures.0 (refl, refl);
-      whole = λ idle size has large. holds _;
-    }
+    let p = err_from_is_err_and c.from_residual.result c.from_residual.ensures.1 in
+    rw p.1 (record { reads = tt; definition = tt; left = tt; none = tt; err = (refl, refl); whole = λ idle size has large. tt })
 
 pub returns-in_err-learn_copy : goal.returns-in_err-learn_copy
 returns-in_err-learn_copy g c =
-    let exit = c.from_residual-in_err-learn_copy in
-    let holds = no_result exit.result exit.ensures.0 in
-    record {
-      reads = holds _;
-      definition = holds _;
-      left = holds _;
-      none = holds _;
-      err = on_error exit.result exit.ensures.0 (c.in_err-learn_copy.ensures.err, refl);
-      whole = λ idle size has large. holds _;
-    }
+    let p = err_from_is_err_and c.from_residual-in_err-learn_copy.result c.from_residual-in_err-learn_copy.ensures.1 in
+    rw p.1 (record {
+      reads = tt;
+      definition = tt;
+      left = tt;
+      none = tt;
+      err = (c.in_err-learn_copy.ensures.err, refl);
+      whole = λ idle size has large. tt;
+    })

@@ -4,16 +4,16 @@ use Rattle.fit_step.proofs.SkippedRecords.{skipped_after, one_learned}
 use Rattle.fit_step.proofs.skipping.skip_message_in_section.Goals as goal
 
 pub overflow_cast-position : goal.overflow_cast-position
-overflow_cast-position g c = omega (arith, c.in-Some.ensures.left)
+overflow_cast-position g c = omega (arith, c.in-Some.ensures.plain.left)
 
 pub overflow_sub-position : goal.overflow_sub-position
-overflow_sub-position g c = omega (arith, c.in-Some.ensures.left)
+overflow_sub-position g c = omega (arith, c.in-Some.ensures.plain.left)
 
 pub returns : goal.returns
 returns g c =
     let e = c.args.env.now in
     let m = c.in-Some.message in
-    let told = c.in-Some.ensures in
+    let told = c.in-Some.ensures.plain in
     record {
       within = told.stands.within;
       none = λ none. absurd (omega (arith, none));
@@ -22,7 +22,7 @@ returns g c =
         skipped_after e e c.args.position.now c.args.in_progress.now c.args.piece.now (1 + length m.body.now) (Data (message_in m) ∷ []) told.idle told.left
             (one_learned e (message_in m) _ told.stands.spelled told.learned),
       );
-      whole = told.whole;
+      whole = c.in-Some.ensures.whole;
     }
 
 pub returns-in_default : goal.returns-in_default

@@ -1,7 +1,7 @@
 use Rattle.fit_step.proofs.Common.{◌≡◌, ap, ◌∙◌, subst, sym, refl, Define, learn}
 use Rattle.fit_step.proofs.ReadDefinitions.{fields_are}
 use Rattle.fit_step.specs.inner.Definitions.{definition_of}
-use Rattle.fit_step.proofs.Exits.{no_result, on_error}
+use Rattle.std.proofs.lemmas.Result.{err_from_is_err_and}
 use Rattle.fit_step.proofs.whole.learn_copy.Goals as goal
 
 pub is_known-requires : goal.is_known-requires
@@ -16,7 +16,7 @@ returns-then-is_known g c =
 
 pub returns-in_err-fields : goal.returns-in_err-fields
 returns-in_err-fields g c =
-    let exit = c.from_residual in record { ok = no_result exit.result exit.ensures.0 _; err = on_error exit.result exit.ensures.0 refl }
+    let p = err_from_is_err_and c.from_residual.result c.from_residual.ensures.1 in rw p.1 (record { ok = tt; err = refl })
 
 pub returns-clause-err : goal.returns-clause-err
 returns-clause-err g c = c.define.ensures.err

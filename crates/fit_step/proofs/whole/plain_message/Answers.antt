@@ -13,13 +13,15 @@ returns g c =
     let used = 1 + length m.body.now in
     let other = c.if-message-eq-FIELD_DESCRIPTION.false in
     record {
-      idle = c.in-None.is;
-      sound = told.sound;
-      size = told.size;
-      stands = plain_stands e c.args.room piece (Data (message_in m)) used (omega arith) told.within (omega (arith, c.if-used-room.false)) told.spelled;
-      left = omega (arith, c.if-used-room.false);
-      message = stands_there e (message_in m) m.defined.now told.defined used piece other told.within told.spelled;
-      learned = learns_nothing e (message_in m) m.defined.now told.defined (ne_eqb m.defined.now.definition.global 206 other);
+      plain = record {
+        idle = c.in-None.is;
+        sound = told.sound;
+        size = told.size;
+        stands = plain_stands e c.args.room piece (Data (message_in m)) used (omega arith) told.within (omega (arith, c.if-used-room.false)) told.spelled;
+        left = omega (arith, c.if-used-room.false);
+        message = stands_there e (message_in m) m.defined.now told.defined used piece other told.within told.spelled;
+        learned = learns_nothing e (message_in m) m.defined.now told.defined (ne_eqb m.defined.now.definition.global 206 other);
+      };
       whole = λ idle size has large.
           let (same, long) = message_found e piece size (Some m) has told.found in
           long ∙ length-take-le size piece has.1;
@@ -27,37 +29,19 @@ returns g c =
 
 pub returns-in-Some : goal.returns-in-Some
 returns-in-Some g c = record {
-  idle = tt;
-  sound = tt;
-  size = tt;
-  stands = tt;
-  left = tt;
-  message = tt;
-  learned = tt;
+  plain = tt;
   whole = λ idle size has large. absurd (let some = sym c.in-Some.is ∙ idle in cc);
 }
 
 pub returns-in_default : goal.returns-in_default
 returns-in_default g c = record {
-  idle = tt;
-  sound = tt;
-  size = tt;
-  stands = tt;
-  left = tt;
-  message = tt;
-  learned = tt;
+  plain = tt;
   whole = λ idle size has large. absurd (message_found c.args.env.now c.args.piece.now size None has c.in_default.ensures.found);
 }
 
 pub returns-then-message-eq-FIELD_DESCRIPTION : goal.returns-then-message-eq-FIELD_DESCRIPTION
 returns-then-message-eq-FIELD_DESCRIPTION g c = record {
-  idle = tt;
-  sound = tt;
-  size = tt;
-  stands = tt;
-  left = tt;
-  message = tt;
-  learned = tt;
+  plain = tt;
   whole = λ idle size has large.
       let m = c.in-Some-message_bytes.message in
       let e = c.args.env.now in
@@ -68,13 +52,7 @@ returns-then-message-eq-FIELD_DESCRIPTION g c = record {
 
 pub returns-then-used-room : goal.returns-then-used-room
 returns-then-used-room g c = record {
-  idle = tt;
-  sound = tt;
-  size = tt;
-  stands = tt;
-  left = tt;
-  message = tt;
-  learned = tt;
+  plain = tt;
   whole = λ idle size has large.
       let (same, long) = message_found c.args.env.now c.args.piece.now size (Some c.in-Some-message_bytes.message) has c.in-Some-message_bytes.ensures.found in
       absurd (omega (arith, large, long, length-take-le size c.args.piece.now has.1, c.if-used-room.true));

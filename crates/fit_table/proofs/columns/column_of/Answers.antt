@@ -1,33 +1,7 @@
-use Rattle.std.proofs.Common.{rules}
-use Rattle.std.proofs.lemmas.List.{drop-drop}
-use Rattle.fit_table.proofs.Common.{◌∙◌, arith, drop, get_or, FieldDef, ◌+◌, ap}
-use Rattle.fit_table.proofs.TableColumnFacts.{first_columns, found_in, sizes_left, first_in, passed}
 use Rattle.fit_table.proofs.columns.column_of.Goals as goal
 
-abbrev nothing : FieldDef
-nothing = record { number = 0; size = 0; code = 0 }
+pub returns-in-Some : goal.returns-in-Some
+returns-in-Some c = c.placed.ensures c.args.fields.now c.args.number c.in-Some.ensures
 
-pub returns-then-field-number : goal.returns-then-field-number
-returns-then-field-number c =
-    let fields = c.args.fields.now in
-    let number = c.args.number in
-    let i = c.loop-field.field-index in
-    let offset = c.loop-field.offset in
-    let within = c.loop-field-test.true in
-    first_columns fields number offset (get_or fields i nothing) c.placed.result
-    (λ o bytes. c.loop-field.invariant.first o bytes ∙ found_in o fields (drop offset bytes) number i nothing within c.if-field-number.true)
-    c.if-field-number.true (omega (arith, c.loop-field.invariant.left, sizes_left fields i nothing within)) c.placed.ensures
-
-pub loop-field-preserved : goal.loop-field-preserved
-loop-field-preserved c =
-    let fields = c.args.fields.now in
-    let number = c.args.number in
-    let i = c.loop-field.field-index in
-    let offset = c.loop-field.offset in
-    let within = c.loop-field-test.true in
-    record {
-      first = λ o bytes. c.loop-field.invariant.first o bytes ∙ passed o fields (drop offset bytes) number i nothing within c.if-field-number.false
-          ∙ ap (λ b. first_in o (drop (i + 1) fields) b number) (drop-drop (get_or fields i nothing).size offset bytes);
-      left = omega (arith, c.loop-field.invariant.left, sizes_left fields i nothing within);
-      small = search rules;
-    }
+pub returns-in-None : goal.returns-in-None
+returns-in-None c = c.in-None.ensures

@@ -1,10 +1,8 @@
-use Rattle.fit_table.proofs.Common.{refl}
-use Rattle.std.proofs.Common.{rules}
+use Rattle.fit_table.proofs.Common.{subst, sym, IsFirst}
 use Rattle.fit_table.proofs.columns.placed.Goals as goal
 
-pub returns : goal.returns
-returns c = (
-  refl,
-  refl,
-  record { small = c.in_ok-form.ensures.small; form = search rules; width = search rules; room = search rules; kind = c.of.ensures },
-)
+pub returns-in-Some : goal.returns-in-Some
+returns-in-Some c = λ fields number first. (subst (IsFirst fields number) (sym c.in-Some.ensures.0) first, c.in-Some.ensures.1)
+
+pub returns-in-None : goal.returns-in-None
+returns-in-None c = λ fields number first. first

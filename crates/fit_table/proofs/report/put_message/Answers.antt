@@ -1,13 +1,11 @@
-use Rattle.fit_table.proofs.Common.{column_fields, ◌≡◌, ◌∙◌, ◌++◌, [], ap, subst, sym, true, Data, Values, Global, csv_text, defined_at, known}
-use Rattle.fit_table.proofs.Common.{table_message_rows}
+use Rattle.fit_table.proofs.Common.{column_fields, ◌≡◌, ◌∙◌, ◌++◌, [], ap, on_ok_weaker, subst, sym, Data, csv_text, defined_at, known}
+use Rattle.fit_table.proofs.Common.{table_message_rows, HasRows}
 use Rattle.std.proofs.Common.{Some}
 use Rattle.std.proofs.lemmas.List.{append-nil}
 use Rattle.fit_record.specs.MessageBytes.{message_in}
 use Rattle.fit_record.specs.Records.{IsRecord}
-use Rattle.fit_table.specs.inner.TableCells.{MayPutRow}
 use Rattle.fit_texts.proofs.CurrentFacts.{renewed}
 use Rattle.fit_table.proofs.RowsInBytes.{row_of_other}
-use Rattle.fit_table.proofs.TableNumbers.{if_ok}
 use Rattle.fit_table.proofs.report.put_message.Goals as goal
 
 pub unreachable-requires : goal.unreachable-requires
@@ -18,7 +16,7 @@ unreachable-requires c =
 
 pub returns-then-message-ne-RECORD-clause-row : goal.returns-then-message-ne-RECORD-clause-row
 unfolding csv_text
-returns-then-message-ne-RECORD-clause-row c put v is_record =
+returns-then-message-ne-RECORD-clause-row c v is_record =
     let bytes = c.args.bytes.now in
     let before = c.args.stream.now in
     let m = c.in-Some.message in
@@ -42,13 +40,10 @@ returns-clause-row c =
     let before = c.args.stream.now in
     let m = c.in-Some.message in
     let old = c.args.text.now in
-    let new = c.put_message_row.new.text in
-    if_ok (λ put. MayPutRow c.args.file before (message_in m) put old new)
-    (λ put. put ≡ true → (v : Values Global) → IsRecord (known before) (Data v) bytes
-    → new.items ≡ old.items ++ csv_text (table_message_rows c.args.file before v)) c.put_message_row.result
-    (λ put row is v is_record.
+    on_ok_weaker c.put_message_row.result
+    (λ (row : HasRows (table_message_rows c.args.file before (message_in m)) old c.put_message_row.new.text). λ v is_record.
     let found = c.in-Some.ensures.found v bytes [] (sym (append-nil bytes)) (subst (λ e. IsRecord e (Data v) bytes) (sym c.env.ensures) is_record) in
-    (row is).text ∙ ap (λ w. old.items ++ csv_text (table_message_rows c.args.file before w)) found.0) c.put_message_row.ensures.row
+    row.text ∙ ap (λ w. old.items ++ csv_text (table_message_rows c.args.file before w)) found.0) c.put_message_row.ensures.row
 
 pub put_message_row-requires-clause-current : goal.put_message_row-requires-clause-current
 put_message_row-requires-clause-current c =

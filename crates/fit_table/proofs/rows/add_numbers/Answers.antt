@@ -6,7 +6,7 @@ use Rattle.fit_texts.proofs.AddedCells.{more_cells}
 use Rattle.fit_table.proofs.rows.add_numbers.Goals as goal
 
 pub returns-clause-cells : goal.returns-clause-cells
-returns-clause-cells g c d v t are =
+returns-clause-cells c d v t are =
     let place = map (λ (cell : Option Cell). unwrap_or cell []) (place_cells d v t) in
     let effort = map (λ (cell : Option Cell). unwrap_or cell []) (effort_cells d v t) in
     let before = take c.add_place-at.result c.add_place-at.new.row in

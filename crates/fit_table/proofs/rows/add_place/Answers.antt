@@ -5,7 +5,7 @@ use Rattle.fit_texts.proofs.AddedCells.{more_cells}
 use Rattle.fit_table.proofs.rows.add_place.Goals as goal
 
 pub returns-clause-cells : goal.returns-clause-cells
-returns-clause-cells g c d v t are =
+returns-clause-cells c d v t are =
     let text = take c.args.at c.args.row.now in
     let t1 = take c.add_position-at.result c.add_position-at.new.row in
     let t2 = take c.add_position-at-2.result c.add_position-at-2.new.row in

@@ -8,7 +8,7 @@ use Rattle.fit_table.proofs.BegunRows.{row_begun}
 use Rattle.fit_table.proofs.rows.put_first_row.Goals as goal
 
 pub returns-in-Some : goal.returns-in-Some
-returns-in-Some g c = on_ok_weaker c.put_begun.result (λ ends d v t are timed.
+returns-in-Some c = on_ok_weaker c.put_begun.result (λ ends d v t are timed.
     let (like, is, fits) = c.in-Some.ensures in
     let numbers = map (λ (cell : Option Cell). unwrap_or cell []) (place_cells d v t ++ effort_cells d v t) in
     record {
@@ -17,7 +17,7 @@ returns-in-Some g c = on_ok_weaker c.put_begun.result (λ ends d v t are timed.
     }) c.put_begun.ensures
 
 pub returns : goal.returns
-returns g c = on_ok_weaker c.put_numbers.result (λ ends d v t are timed.
+returns c = on_ok_weaker c.put_numbers.result (λ ends d v t are timed.
     let text = c.args.text.now.items in
     let time = unwrap_or (option_map instant_text t.time) [] in
     let numbers = map (λ (cell : Option Cell). unwrap_or cell []) (place_cells d v t ++ effort_cells d v t) in

@@ -6,7 +6,7 @@ use Rattle.fit_table.proofs.BegunRows.{row_begun}
 use Rattle.fit_table.proofs.rows.put_row.Goals as goal
 
 pub returns-in-Some : goal.returns-in-Some
-returns-in-Some g c = on_ok_weaker c.put_begun.result (λ ends d v t are timed.
+returns-in-Some c = on_ok_weaker c.put_begun.result (λ ends d v t are timed.
     let (like, is, fits) = c.in-Some.ensures in
     let numbers = map (λ (cell : Option Cell). unwrap_or cell []) (place_cells d v t ++ effort_cells d v t) in
     record {

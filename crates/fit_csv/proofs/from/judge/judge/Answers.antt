@@ -1,20 +1,14 @@
-use Rattle.fit_csv.proofs.Common.{◌∙◌, sym, subst, err_from_is_err_and, Chain}
-use Rattle.std.proofs.Common.{ℕ}
-use Rattle.fit_csv.specs.inner.Judging.{HasJudged}
+use Rattle.fit_csv.proofs.Common.{err_from_is_err_and}
 use Rattle.std.proofs.lemmas.Result.{IfOk-from_err}
 use Rattle.fit_csv.proofs.from.judge.judge.Goals as goal
 
-pub returns-in_err-left-clause-err : goal.returns-in_err-left-clause-err
-returns-in_err-left-clause-err c =
+pub returns-in_err-judge_rows-clause-err : goal.returns-in_err-judge_rows-clause-err
+returns-in_err-judge_rows-clause-err c =
     let p = err_from_is_err_and c.from_residual.result c.from_residual.ensures.1 in
-    rw (p.1, p.2) (c.in_err-left.ensures.err c.args.text.now (sym c.without_mark.ensures))
+    rw (p.1, p.2) c.in_err-judge_rows.ensures.err
 
-pub take_rest-requires : goal.take_rest-requires
-take_rest-requires c =
-    let judged = c.in_ok-left.ensures.ok c.args.text.now (sym c.without_mark.ensures) in
-    subst (λ (n : ℕ). HasJudged c.args.text.now c.in_ok-left.left.now c.take_first_line.new.self.chain n)
-    (sym (c.in_ok-left.ensures.rows ∙ c.new-judge.ensures.rows))
-    (subst (λ (t : Chain). HasJudged c.args.text.now c.in_ok-left.left.now t 1) (sym (c.in_ok-left.ensures.chain ∙ c.new-judge.ensures.chain)) judged)
+pub returns-in_err-judge_rows-clause-ok : goal.returns-in_err-judge_rows-clause-ok
+returns-in_err-judge_rows-clause-ok c = IfOk-from_err c.from_residual.result _ c.from_residual.ensures.0
 
-pub returns-in_err-left-clause-ok : goal.returns-in_err-left-clause-ok
-returns-in_err-left-clause-ok c = IfOk-from_err c.from_residual.result _ c.from_residual.ensures.0
+pub returns-clause-ok : goal.returns-clause-ok
+returns-clause-ok c = c.in_ok-judge_rows.ensures.ok

@@ -1,97 +1,29 @@
--- Each turn takes one file, or ends the reading.
-use Rattle.fit_decode.proofs.Common.{length, Ok, Err, sym, ap, ◌∙◌, subst, arith, Global, Consumes, IsViable, chain_limit, IsAfter, IsEnd, short_bytes}
-use Rattle.fit_decode.proofs.ChainRead.{chain_ended, chain_stopped, gives_chain, one_longer, one_more, pushed}
-use Rattle.fit_decode.specs.Answers.{Seen}
-use Rattle.fit_decode.proofs.Consumed.{Consumes-nothing}
-use Rattle.fit_decode.proofs.NextRead.{after_none, comes_after, file_not_kept, next_good}
+-- What was read is returned.
+use Rattle.std.proofs.lemmas.Result.{err_from_is_err_and}
+use Rattle.fit_decode.proofs.Common.{Ok, Err, sym, ap, ◌∙◌, subst, Fault}
+use Rattle.fit_decode.proofs.ChainRead.{gives_chain}
+use Rattle.fit_decode.specs.Reads.{Channel, ReadsChain, channel}
 use Rattle.fit_decode.proofs.readers.chain.read_chain.Goals as goal
 
-pub returns-then-is_err-clause-exact : goal.returns-then-is_err-clause-exact
-returns-then-is_err-clause-exact g c =
-    let beyond = c.files.invariant.beyond in
-    let r = c.in-Ok.ensures.read c.files.files.items (comes_after c.files.files.items _ _ _ beyond) in
-    let more = one_more c.files.files.items _ _ _ c.read_file.new.taken.items _ _ _ _ c.read_file.new.decoder c.read_file.new.count beyond
-    c.files.invariant.eats c.in-Ok.ensures.counted
-    c.in-Ok.ensures.viable c.in-Ok.file r in
-    let good = next_good c.files.files.items _ _ _ c.read_file.new.taken.items _ _ _ c.read_file.new.decoder c.read_file.new.count beyond
-    c.in-Ok.ensures.counted c.in-Ok.ensures.viable c.in-Ok.file r in
-    let wants = file_not_kept c.files.files.items _ _ _ c.read_file.new.taken.items _ _ _ c.read_file.new.decoder c.read_file.new.count beyond
-    c.in-Ok.ensures.counted c.in-Ok.ensures.viable c.in-Ok.file r in
-    (c.read_file.new.taken.items, more.1, (more.0.counted, wants, good))
+pub read_files-requires-clause-fresh : goal.read_files-requires-clause-fresh
+read_files-requires-clause-fresh g c = c.new-decoder.ensures
 
-pub files-smaller : goal.files-smaller
-files-smaller g c =
-    let beyond = c.files.invariant.beyond in
-    let r = c.in-Ok.ensures.read c.files.files.items (comes_after c.files.files.items _ _ _ beyond) in
-    let longer = one_longer c.files.files.items _ _ _ c.read_file.new.taken.items _ _ _ _ c.read_file.new.decoder c.read_file.new.count beyond
-    c.files.invariant.eats c.in-Ok.ensures.counted
-    c.in-Ok.ensures.viable c.in-Ok.file r in
-    omega (arith, longer, short_bytes c.files.taken.items beyond.viable)
+pub read_files-requires-clause-empty : goal.read_files-requires-clause-empty
+read_files-requires-clause-empty g c = c.new-files.ensures.items
 
-pub files-preserved : goal.files-preserved
-files-preserved g c =
-    let beyond = c.files.invariant.beyond in
-    let r = c.in-Ok.ensures.read c.files.files.items (comes_after c.files.files.items _ _ _ beyond) in
-    let more = one_more c.files.files.items _ _ _ c.read_file.new.taken.items _ _ _ _ c.read_file.new.decoder c.read_file.new.count beyond
-    c.files.invariant.eats c.in-Ok.ensures.counted
-    c.in-Ok.ensures.viable c.in-Ok.file r in
-    let items = pushed c.push.result c.is_err.result c.files.files.items c.push.new.self.items c.in-Ok.file c.is_err.ensures.value c.if-is_err.false
-    c.push.ensures.items in
-    record {
-      beyond = subst (λ fs. IsAfter fs c.read_file.new.decoder c.read_file.new.count c.read_file.new.taken.items) (sym items) more.0;
-      eats = more.1;
-    }
+pub returns-in_err-read_files-clause-exact : goal.returns-in_err-read_files-clause-exact
+returns-in_err-read_files-clause-exact g c =
+    let p = err_from_is_err_and c.from_residual.result c.from_residual.ensures.1 in
+    let source : Channel = channel g.S.Source.remaining g.S.Source.has_failed c.args.source.now c.read_files.new.source in
+    subst (ReadsChain source) (sym (p.1 ∙ ap (λ (f : Fault). Err f) p.2)) c.in_err-read_files.ensures.err
 
-pub returns-then-is_end-clause-exact : goal.returns-then-is_end-clause-exact
-returns-then-is_end-clause-exact g c =
-    let beyond = c.files.invariant.beyond in
-    let r = c.in-Err.ensures.read c.files.files.items (comes_after c.files.files.items _ _ _ beyond) in
-    let end = subst (IsEnd Global c.read_file.new.decoder c.in-Err.fault) c.if-is_end.true c.is_end.ensures in
-    chain_ended c.files.files.items _ _ _ c.read_file.new.taken.items _ _ _ _ c.read_file.new.decoder c.read_file.new.count beyond c.files.invariant.eats
-    c.in-Err.ensures.counted c.in-Err.ensures.viable
-    c.in-Err.fault r end
+pub returns-in_err-read_files-clause-chain : goal.returns-in_err-read_files-clause-chain
+returns-in_err-read_files-clause-chain g c = λ fs b input are chain.
+    gives_chain fs b _ _ (g.S.Source.has_failed c.read_files.new.source) c.from_residual.result input are chain (returns-in_err-read_files-clause-exact g c)
 
-pub returns-then-is_end-clause-chain : goal.returns-then-is_end-clause-chain
-returns-then-is_end-clause-chain g c = λ fs b input are chain.
-    gives_chain fs b _ _ (g.S.Source.has_failed c.read_file.new.source) (Ok c.files.files) input are chain (returns-then-is_end-clause-exact g c)
+pub returns-clause-exact : goal.returns-clause-exact
+returns-clause-exact g c = c.in_ok-read_files.ensures.ok
 
-pub returns-in-Err-clause-exact : goal.returns-in-Err-clause-exact
-returns-in-Err-clause-exact g c =
-    let beyond = c.files.invariant.beyond in
-    let r = c.in-Err.ensures.read c.files.files.items (comes_after c.files.files.items _ _ _ beyond) in
-    let end = subst (IsEnd Global c.read_file.new.decoder c.in-Err.fault) c.if-is_end.false c.is_end.ensures in
-    chain_stopped c.files.files.items _ _ _ c.read_file.new.taken.items _ _ _ _ c.read_file.new.decoder c.read_file.new.count beyond c.files.invariant.eats
-    c.in-Err.ensures.counted c.in-Err.ensures.viable
-    c.in-Err.fault r end
-
-pub returns-in-Err-clause-chain : goal.returns-in-Err-clause-chain
-returns-in-Err-clause-chain g c = λ fs b input are chain.
-    gives_chain fs b _ _ (g.S.Source.has_failed c.read_file.new.source) (Err c.in-Err.fault) input are chain (returns-in-Err-clause-exact g c)
-
-pub files-init : goal.files-init
-files-init g c =
-    let had = g.S.Source.remaining c.args.source.now in
-    record {
-      beyond = subst (λ fs. IsAfter fs c.new-decoder.result 0 c.new-taken.result.items) (sym c.new-files.ensures.items)
-          (after_none Global c.new-decoder.result c.new-taken.result.items c.new-decoder.ensures c.new-taken.ensures);
-      eats = subst (Consumes had had) (sym c.new-taken.ensures) (Consumes-nothing had);
-    }
-
-pub read_file-requires : goal.read_file-requires
-read_file-requires g c =
-    let beyond = c.files.invariant.beyond in (
-      omega arith,
-      (
-        ap (λ (v : Seen). v.refusal) beyond.fed,
-        (
-          subst (λ (v : Seen). IsViable Global chain_limit v.bytes) (sym beyond.fed) beyond.viable,
-          (beyond.counted ∙ ap (λ (v : Seen). length v.bytes) (sym beyond.fed), (c.files.files.items, comes_after c.files.files.items _ _ _ beyond)),
-        ),
-      ),
-    )
-
-pub is_end-requires : goal.is_end-requires
-is_end-requires g c = omega arith
-
-pub returns-then-is_err-clause-chain : goal.returns-then-is_err-clause-chain
-returns-then-is_err-clause-chain g c = λ fs b input are chain. tt
+pub returns-clause-chain : goal.returns-clause-chain
+returns-clause-chain g c = λ fs b input are chain.
+    gives_chain fs b _ _ (g.S.Source.has_failed c.read_files.new.source) (Ok c.read_files.new.files) input are chain c.in_ok-read_files.ensures.ok

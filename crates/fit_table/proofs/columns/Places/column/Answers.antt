@@ -1,12 +1,5 @@
-use Rattle.fit_table.proofs.Common.{sym, subst}
-use Rattle.fit_table.specs.inner.TableColumns.{IsColumn}
+use Rattle.fit_table.proofs.Common.{sym, subst, IsColumn}
 use Rattle.fit_table.proofs.columns.Places.column.Goals as goal
-
-pub returns-in-0 : goal.returns-in-0
-returns-in-0 c = λ fields are. subst (λ n. IsColumn fields n c.args.self.now.position_lat) (sym c.in-0.is) are.position_lat
-
-pub returns-in-1 : goal.returns-in-1
-returns-in-1 c = λ fields are. subst (λ n. IsColumn fields n c.args.self.now.position_long) (sym c.in-1.is) are.position_long
 
 pub returns-in-2 : goal.returns-in-2
 returns-in-2 c = λ fields are. subst (λ n. IsColumn fields n c.args.self.now.altitude) (sym c.in-2.is) are.altitude

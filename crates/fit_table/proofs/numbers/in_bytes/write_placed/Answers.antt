@@ -1,10 +1,10 @@
 use denote.Enum.Bare.{same_true, sameb}
 use Rattle.std.proofs.Common.{rules}
-use Rattle.fit_table.proofs.Common.{◌≡◌, ◌∙◌, ◌+◌, ◌≤◌, false, true, not, length, take, sym, ap, subst}
+use Rattle.fit_table.proofs.Common.{◌≡◌, ◌∙◌, false, true, not, take, sym, ap, subst}
 use Rattle.fit_table.specs.contracts.kinds.Kind.{the_type}
 use Rattle.fit_table.specs.declared.kinds.Kind.TheVariants.{Other}
 use Rattle.fit_table.specs.declared.columns.Place.{Place}
-use Rattle.fit_table.specs.inner.TableColumns.{IsKnown, PutsValue}
+use Rattle.fit_table.specs.inner.TableColumns.{IsIn, IsKnown, PutsValue}
 use Rattle.fit_table.proofs.numbers.in_bytes.write_placed.Goals as goal
 
 pub of_kind-requires-clause-known : goal.of_kind-requires-clause-known
@@ -19,9 +19,8 @@ of_kind-requires-clause-some c = λ is. let no : true ≡ false = c.if-ne.ensure
 pub write_value_at-requires-clause-known : goal.write_value_at-requires-clause-known
 write_value_at-requires-clause-known c = subst IsKnown (sym c.of_kind.ensures) c.requires.known
 
-pub write_value_at-requires-clause-within : goal.write_value_at-requires-clause-within
-write_value_at-requires-clause-within c =
-    subst (λ (p : Place). p.offset + p.field.size ≤ length c.args.bytes.now) (sym c.of_kind.ensures) c.requires.within
+pub write_value_at-requires-clause-spot : goal.write_value_at-requires-clause-spot
+write_value_at-requires-clause-spot c = subst (λ (p : Place). IsIn p.spot c.args.bytes.now) (sym c.of_kind.ensures) c.requires.spot
 
 pub returns-then-eq-clause-cell : goal.returns-then-eq-clause-cell
 returns-then-eq-clause-cell c =

@@ -8,12 +8,12 @@ use Rattle.fit_texts.proofs.report.TextReportReport.tell.Goals as goal
 pub take_header-requires : goal.take_header-requires
 take_header-requires g c =
     subst (λ (k : KeptEvents). k.files < 2 ^ 60) (sym c.requires.1)
-    (few_files c.heard_are_few.ensures c.requires.0 c.args.event.now c.requires.2)
+    (few_files c.requires.0 c.args.event.now c.requires.2)
 
 pub take_record-requires : goal.take_record-requires
 take_record-requires g c =
     subst (λ (k : KeptEvents). Fits (known k.records) c.in-Item.record_) (sym c.requires.1)
-    (record_fits c.heard_records_fit.ensures c.looking_back_is_learning.ensures c.requires.0 c.in-Item.record_
+    (record_fits c.requires.0 c.in-Item.record_
     (subst (λ x. AreHeard (hear x c.requires.0)) c.in-Item.is c.requires.2))
 
 pub returns-in-Header-clause-heard : goal.returns-in-Header-clause-heard
