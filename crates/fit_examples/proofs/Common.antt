@@ -1,11 +1,11 @@
 -- The names of std, of the crates below and of this crate's specs that several proofs use: each proof takes them from here.
-pub use Rattle.std.proofs.Common.{◌≡◌, false, ℕ, ◌+◌, ◌<◌, List, [], ◌∷◌, ◌++◌, length, take, get_or, Option, Some, None, Result, Ok, Err, refl, sym}
+pub use Rattle.std.proofs.Common.{◌≡◌, false, ℕ, ◌+◌, ◌<◌, List, [], ◌∷◌, ◌++◌, length, take, get_or, Option, Some, None, Ok, Err, refl, sym}
 pub use Rattle.std.proofs.Common.{ap, ◌∙◌, subst, append_assoc, reverse, ap₂, arith, ◌*◌, ◌≤◌, true, rules, ◌^◌, IfErr}
 pub use Rattle.std.proofs.lemmas.Bool.{eqb-true}
 pub use Rattle.std.proofs.lemmas.List.{map-append, take_more, append-nil, reverse-append, reverse-reverse, length-take-le, get_or_append_left}
 pub use Rattle.std.proofs.lemmas.List.{take-append-le}
 pub use Rattle.std.proofs.lemmas.Result.{err_from_is_err_and}
-pub use Rattle.std.specs.Prelude.{IfOk, map, flat_map}
+pub use Rattle.std.specs.Prelude.{map, flat_map}
 pub use Rattle.std.specs.declared.alloc.Global.{Global}
 pub use Rattle.fit_base.proofs.ByteLists.{slice_is_bytes, IsBytes-front}
 pub use Rattle.fit_chain.proofs.Faults.{chain_end, fault_of_chain}
