@@ -29,7 +29,6 @@ use std::marker::Model;
 /// Reads a chain of FIT files as their bytes come, in pieces of any length.
 ///
 /// Clauses see the bytes fed that weren't refused, and the refusal if there was one.
-#[derive(Drop)]
 pub struct Decoder<A: Allocator + Copy = Global> {
     alloc: A,
     reader: HeadReader,
@@ -40,6 +39,23 @@ pub struct Decoder<A: Allocator + Copy = Global> {
     position: Position,
     count: u64,
     history: History<u8>,
+}
+
+// A call wherever a decoder is dropped: derived, all that it frees would be written out and proved there.
+impl<A: Allocator + Copy> Drop for Decoder<A> {
+    fn drop(self) {
+        let Decoder {
+            alloc: _,
+            reader: _reader,
+            sum: _sum,
+            env: _env,
+            in_progress: _in_progress,
+            stage: _stage,
+            position: _,
+            count: _,
+            history: _history,
+        } = self;
+    }
 }
 
 impl<A: Allocator + Copy> Model for Decoder<A> {
