@@ -17,7 +17,6 @@ use std::marker::Model;
 /// after the file that it returns.
 ///
 /// Clauses see the source, the bytes taken since `new`, and the fault if there was one.
-#[derive(Drop)]
 pub struct Reading<S: Source, A: Allocator + Copy = Global> {
     alloc: A,
     source: S,
@@ -25,6 +24,20 @@ pub struct Reading<S: Source, A: Allocator + Copy = Global> {
     decoder: Decoder<A>,
     fault: Option<Fault>,
     taken: History<u8>,
+}
+
+// A call wherever a reading is dropped, as of its decoder.
+impl<S: Source + Drop, A: Allocator + Copy> Drop for Reading<S, A> {
+    fn drop(self) {
+        let Reading {
+            alloc: _,
+            source: _source,
+            count: _,
+            decoder: _decoder,
+            fault: _,
+            taken: _taken,
+        } = self;
+    }
 }
 
 impl<S: Source, A: Allocator + Copy> Model for Reading<S, A> {
@@ -57,8 +70,15 @@ impl<S: Source, A: Allocator + Copy> Reading<S, A> {
     pub fn into_source(self) -> S
         ensures { result ≡ self.source }
     {
-        let Reading { source, .. } = self;
-        source
+        let Reading {
+            alloc: _,
+            source: rest,
+            count: _,
+            decoder: _decoder,
+            fault: _,
+            taken: _taken,
+        } = self;
+        rest
     }
 
     /// The next file, or `None` where the source ends after at least one. After a fault each call returns it again.

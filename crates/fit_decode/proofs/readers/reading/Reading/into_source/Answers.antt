@@ -6,8 +6,8 @@ use Rattle.fit_decode.specs.contracts.readers.reading.Reading.into_source.{S-row
 use Rattle.fit_decode.proofs.Sizes.{field_is_within}
 use Rattle.fit_decode.proofs.readers.reading.Reading.into_source.Goals as goal
 
-pub drop-self-inside-requires : goal.drop-self-inside-requires
-drop-self-inside-requires g c =
+pub drop-decoder-requires : goal.drop-decoder-requires
+drop-decoder-requires g c =
     let reading : Ty = layout (the_row (S-row g.row.S g.row.A) (A-row g.row.S g.row.A) g.S.Source g.A.Allocator) in
     field_is_within 3 reading _ assumption
 
