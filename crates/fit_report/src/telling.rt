@@ -23,12 +23,22 @@ use std::marker::Model;
 /// is the same reporter in each call, and has heard nothing at first; the sink may be another one in each call.
 ///
 /// Clauses see the bytes fed that weren't refused, the refusal if there was one, and how many bytes of text were put.
-#[derive(Drop)]
 pub struct Telling {
     decoder: Decoder,
     /// The text of one event, or of what is skipped at once.
     text: Vec<u8>,
     written: u64,
+}
+
+// A call wherever it is dropped, as of its decoder.
+impl Drop for Telling {
+    fn drop(self) {
+        let Telling {
+            decoder: _decoder,
+            text: _text,
+            written: _,
+        } = self;
+    }
 }
 
 impl Model for Telling {
