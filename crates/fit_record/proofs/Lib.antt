@@ -1,4 +1,5 @@
 pub mod Common
+pub mod Sizes
 pub mod KnownFiles
 pub mod OneRecord
 pub mod RecordLists

@@ -1,6 +1,6 @@
 //! What a reader of records knows: the definition of each local message type, and the described
 //! developer fields.
-ghost use Rattle.std.specs.Prelude.{◌≡◌, ◌+◌, ◌<◌, ◌≤◌, IfOk, IfErr, map, option_map, option_and_then, option_copied, slice_get, slice_set, IsOk, IsSomeAnd, OnOk, OnErr, IfSome, IsTrue, Some, None, [], length};
+ghost use Rattle.std.specs.Prelude.{◌≡◌, ◌+◌, ◌<◌, ◌≤◌, IfOk, IfErr, map, option_map, option_copied, slice_get, slice_set, IsOk, IsSomeAnd, OnOk, OnErr, IfSome, IsTrue, Some, None, [], length};
 ghost use Rattle.fit_record.specs.declared.message.Record.TheVariants.{Define};
 ghost use Rattle.fit_record.specs.Environment.{DescribesNothing, empty_environment, defined_at, defined_by, definition_at, describe, described_by, dev_code, dev_code_at, dev_defs, learn};
 ghost use Rattle.fit_record.specs.Records.{Fits, DefinitionFits, DataFits, body_length, message_size, record_bytes};
@@ -28,13 +28,24 @@ pub struct Defined<A: Allocator = Global> {
 
 /// What is known after some records of a file: the definition of each of the sixteen local message
 /// types, and the base type codes of the developer fields that were described.
-#[derive(Drop)]
 pub struct Env<A: Allocator = Global> {
     pub(crate) places: [Option<Defined<A>>; 16],
     /// How many bytes follow the record header of each local message type.
     lengths: [u32; 16],
     pub(crate) described: BTreeMap<DevKey, u8, A>,
     alloc: A,
+}
+
+// A call wherever an environment is dropped: derived, all that it frees would be written out and proved there.
+impl<A: Allocator> Drop for Env<A> {
+    fn drop(self) {
+        let Env {
+            places: _places,
+            lengths: _,
+            described: _described,
+            alloc: _alloc,
+        } = self;
+    }
 }
 
 impl<A: Allocator> Model for Env<A> {
