@@ -1,5 +1,5 @@
 //! Definition messages (FIT protocol, "Definition Message").
-ghost use Rattle.std.specs.Prelude.{◌≡◌, ◌<◌, ◌≤◌, IfOk, IsTrue, None, Some, length, sum_by};
+ghost use Rattle.std.specs.Prelude.{◌≡◌, ◌↔◌, ◌<◌, ◌≤◌, IfOk, IsTrue, None, Some, length, sum_by};
 ghost use Rattle.fit_base.specs.BaseTypes.{base_type};
 ghost use Rattle.fit_record.specs.Records.{DefinitionFits, body_length};
 ghost use Rattle.fit_record.specs.Sizes.{body_limit};
@@ -113,7 +113,7 @@ impl<A: Allocator> MessageDef<A> {
 
 /// Whether two definitions are the same and have no developer fields.
 pub(crate) fn are_same<A: Allocator>(a: &MessageDef<A>, b: &MessageDef<A>) -> bool
-    ensures { IsTrue result → (a.now ≡ b.now) × (b.now.dev ≡ None) }
+    ensures { IsTrue result ↔ ((a.now ≡ b.now) × (b.now.dev ≡ None)) }
 {
     if a.dev.is_some() || b.dev.is_some() {
         return false;
@@ -130,14 +130,14 @@ pub(crate) fn are_same<A: Allocator>(a: &MessageDef<A>, b: &MessageDef<A>) -> bo
 
 /// Whether two lists of fields are the same.
 fn all_same(a: &[FieldDef], b: &[FieldDef]) -> bool
-    ensures { IsTrue result → a.now ≡ b.now }
+    ensures { IsTrue result ↔ (a.now ≡ b.now) }
 {
     a == b
 }
 
 /// Whether two lists of fields are the same. Where they differ, the last one mostly does, so it is compared first.
 pub fn same_fields(a: &[FieldDef], b: &[FieldDef]) -> bool
-    ensures { IsTrue result → a.now ≡ b.now }
+    ensures { IsTrue result ↔ (a.now ≡ b.now) }
 {
     a.last() == b.last() && all_same(a, b)
 }

@@ -1,5 +1,5 @@
 //! Where the numbers of the table stand in the bytes of messages of a definition, found out once for many messages.
-ghost use Rattle.std.specs.Prelude.{◌≡◌, ◌==◌, ◌+◌, ◌≤◌, ◌<◌, ◌^◌, ℕ, drop, length, take, false, true, IfOk, IfSome, IsTrue, List, None, OnOk};
+ghost use Rattle.std.specs.Prelude.{◌≡◌, ◌↔◌, ◌==◌, ◌+◌, ◌≤◌, ◌<◌, ◌^◌, ℕ, drop, length, take, false, true, IfOk, IfSome, IsTrue, List, None, OnOk};
 ghost use Rattle.std.specs.List.{list_any};
 ghost use Rattle.fit_base.specs.BaseTypes.{base_type, item_width};
 ghost use Rattle.fit_base.specs.Numbers.{number};
@@ -324,7 +324,7 @@ impl Columns {
 
     /// Whether they are those of these fields.
     pub(crate) fn are_of(&self, fields: &[FieldDef]) -> bool
-        ensures { IsTrue result → self.now ≡ fields.now }
+        ensures { IsTrue result ↔ (self.now ≡ fields.now) }
     {
         same_fields(self.fields.as_slice(), fields)
     }

@@ -1,5 +1,5 @@
 //! What is kept of a definition, so that what is made of it serves its later messages too.
-ghost use Rattle.std.specs.Prelude.{◌≡◌, ℕ, IfOk, IsTrue, OnOk, Some, option_and_then, option_map, set, slice_get, true};
+ghost use Rattle.std.specs.Prelude.{◌≡◌, ◌↔◌, ℕ, IfOk, IsTrue, OnOk, Some, option_and_then, option_map, set, slice_get, true};
 ghost use Rattle.fit_texts.specs.Current.{NoneAreCurrent, Renews};
 
 pub(crate) mod developer;
@@ -45,11 +45,11 @@ impl Kept {
 
     /// Whether it is this definition.
     pub(crate) fn is(&self, local: u8, definition: &MessageDef) -> bool
-        ensures { IsTrue result → self.now ≡ record {
+        ensures { IsTrue result ↔ (self.now ≡ record {
           local = local;
           global = definition.now.global;
           fields = definition.now.fields;
-        } }
+        }) }
     {
         self.local == local
             && self.global == definition.global

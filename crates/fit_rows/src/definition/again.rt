@@ -1,5 +1,5 @@
 //! The rows of definition messages that come again, copied from those put before.
-ghost use Rattle.std.specs.Prelude.{◌≡◌, IfOk, IfSome, IsTrue, OnOk};
+ghost use Rattle.std.specs.Prelude.{◌≡◌, ◌↔◌, IfOk, IfSome, IsTrue, OnOk};
 ghost use Rattle.fit_cells.specs.Rows.{HasRows, csv_text};
 ghost use Rattle.fit_rows.specs.ChainRows as rows;
 
@@ -54,14 +54,14 @@ fn mark_of(definition: &MessageDef) -> u64 {
 
 /// Whether two developer fields have the same number, size and developer data index.
 fn is_same_dev(a: &DevDef, b: &DevDef) -> bool
-    ensures { IsTrue result → a.now ≡ b.now }
+    ensures { IsTrue result ↔ (a.now ≡ b.now) }
 {
     a.number == b.number && a.size == b.size && a.index == b.index
 }
 
 /// Whether the developer fields are the same one by one.
 fn are_same_devs(a: &[DevDef], b: &[DevDef]) -> bool
-    ensures { IsTrue result → a.now ≡ b.now }
+    ensures { IsTrue result ↔ (a.now ≡ b.now) }
 {
     if a.len() != b.len() {
         return false;
@@ -76,7 +76,7 @@ fn are_same_devs(a: &[DevDef], b: &[DevDef]) -> bool
 
 /// Whether definitions have the same developer fields, or both no such part.
 fn have_same_devs(a: &Option<Entries<DevDef>>, b: &Option<Entries<DevDef>>) -> bool
-    ensures { IsTrue result → a.now ≡ b.now }
+    ensures { IsTrue result ↔ (a.now ≡ b.now) }
 {
     match (a, b) {
         (Some(a), Some(b)) => are_same_devs(a.as_slice(), b.as_slice()),
@@ -153,7 +153,7 @@ impl KeptRows {
     /// Whether they are those of this definition message.
     #[inline(never)]
     fn are_of(&self, definition: &MessageDef) -> bool
-        ensures { IsTrue result → self.now ≡ definition.now }
+        ensures { IsTrue result ↔ (self.now ≡ definition.now) }
     {
         let own = &self.definition;
         own.local == definition.local

@@ -16,5 +16,5 @@ pub returns-then-is_current-clause-fields : goal.returns-then-is_current-clause-
 returns-then-is_current-clause-fields c = elim c.then-is_current.branch [
   | then-is_current-via-then-is_current w ↦
       same_Some _ _ (same_Some _ _ (sym (returns-then-is_current-clause-kept c) ∙ c.requires w.if-is_current.true))
-  | then-is_current-via-else-is_current+then-are_of w ↦ w.are_of.ensures w.if-are_of.true
+  | then-is_current-via-else-is_current+then-are_of w ↦ w.are_of.ensures.0 w.if-are_of.true
 ]
