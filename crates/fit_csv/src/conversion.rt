@@ -15,13 +15,9 @@ use crate::CsvFault;
 use fit_decode::Source;
 use fit_encode::{Sink, put_all};
 use fit_report::{Report, ReportFault, report};
-use fit_rows::CsvReport;
-use fit_table::TableReport;
+use fit_rows::{CsvReport, ROWS_LINE};
+use fit_table::{TABLE_LINE, TableReport};
 use std::alloc::Global;
-
-/// The first line of the table.
-const TABLE_LINE: &[u8] =
-    b"file,timestamp,position_lat,position_long,altitude,distance,speed,heart_rate,cadence,power,temperature\n";
 
 /// The fault of a conversion by that of its report, where that many bytes were written before it.
 fn csv_fault(fault: ReportFault, before: u64) -> CsvFault
@@ -90,7 +86,7 @@ pub fn to_csv<S: Source, K: Sink>(
     ensures works { OnOk result (K.has_failed sink.new ≡ false) }
 {
     let mut reporter = CsvReport::new(alloc);
-    convert(alloc, source, sink, b"row,a,b,c,d,e,f\n", &mut reporter)
+    convert(alloc, source, sink, ROWS_LINE, &mut reporter)
 }
 
 /// Writes the table of a chain of FIT files as CSV text: the first line, and then a row for each record message. It takes pieces of

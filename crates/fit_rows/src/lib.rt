@@ -11,5 +11,5 @@ mod report;
 mod template;
 mod whole;
 
-pub use report::CsvReport;
+pub use report::{CsvReport, ROWS_LINE};
 pub use whole::MessageReader;

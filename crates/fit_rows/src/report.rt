@@ -11,6 +11,9 @@ use fit_record::MessageDef;
 use fit_texts::{ByLocal, TextMaker, TextReport};
 use std::alloc::{AllocError, Global};
 
+/// The first line of all rows.
+pub const ROWS_LINE: &[u8] = b"row,a,b,c,d,e,f\n";
+
 impl TextMaker for RowMaker {
     ghost use Rattle.fit_rows.specs.EventTexts.{csv_line};
     ghost use Rattle.fit_texts.specs.Current.{AreCurrent};

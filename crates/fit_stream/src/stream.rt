@@ -4,22 +4,15 @@ ghost use Rattle.fit_stream.specs.Flows.{EndsFlow, FeedsFlow};
 ghost use Rattle.fit_stream.specs.Streams.{first_for, line_for};
 
 use crate::Kind;
-use crate::lane::{Lane, free};
+use crate::lane::Lane;
 use crate::silent::SilentReport;
 use fit_messages::MessagesReport;
 use fit_report::ReportFault;
-use fit_rows::CsvReport;
+use fit_rows::{CsvReport, ROWS_LINE};
 use fit_show::ShowReport;
-use fit_table::TableReport;
+use fit_table::{TABLE_LINE, TableReport};
 use std::alloc::Global;
 use std::marker::Model;
-
-/// The first line of the table.
-const TABLE_LINE: &[u8] =
-    b"file,timestamp,position_lat,position_long,altitude,distance,speed,heart_rate,cadence,power,temperature\n";
-
-/// The first line of all rows.
-const ROWS_LINE: &[u8] = b"row,a,b,c,d,e,f\n";
 
 /// A lane of each kind.
 #[derive(Drop)]
@@ -38,21 +31,10 @@ pub struct Stream {
     lanes: Lanes,
 }
 
-/// Frees what a stream has.
-fn free_lanes(lanes: Lanes) {
-    match lanes {
-        Lanes::Check(lane) => free(lane),
-        Lanes::Show(lane) => free(lane),
-        Lanes::Table(lane) => free(lane),
-        Lanes::Rows(lane) => free(lane),
-        Lanes::Messages(lane) => free(lane),
-    }
-}
-
+// A call wherever a stream is dropped.
 impl Drop for Stream {
     fn drop(self) {
-        let Stream { lanes } = self;
-        free_lanes(lanes);
+        let Stream { lanes: _lanes } = self;
     }
 }
 

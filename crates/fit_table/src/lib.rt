@@ -11,4 +11,4 @@ mod numbers;
 mod report;
 mod rows;
 
-pub use report::TableReport;
+pub use report::{TABLE_LINE, TableReport};

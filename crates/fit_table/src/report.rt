@@ -19,6 +19,10 @@ use fit_record::MessageDef;
 use fit_texts::{ByLocal, TextMaker, TextReport};
 use std::alloc::{AllocError, Global};
 
+/// The first line of the table.
+pub const TABLE_LINE: &[u8] =
+    b"file,timestamp,position_lat,position_long,altitude,distance,speed,heart_rate,cadence,power,temperature\n";
+
 /// Puts the text of the row of the data message that the bytes are after the records of a stream in the file of this number.
 #[tactic(auto, using(fit_cells::proofs::AddedRows::text_none))]
 fn put_message(
