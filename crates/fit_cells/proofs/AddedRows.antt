@@ -1,6 +1,6 @@
 -- Rows written one after another.
-use Rattle.fit_cells.proofs.Common.{◌≡◌, ◌∙◌, ◌<◌, ◌≤◌, ◌+◌, ℕ, List, [], ◌∷◌, ◌++◌, length, map, drop, take, get_or, Vec, refl, sym, ap, subst, append_assoc}
-use Rattle.fit_cells.proofs.Common.{arith, map-append, take_all, take_more, default_writer, field_text, fields_text, is_blank, row_text, Row, HasAdded, HasRows}
+use Rattle.fit_cells.proofs.Common.{◌≡◌, ◌∙◌, ◌<◌, ◌+◌, ℕ, List, [], ◌∷◌, ◌++◌, length, map, drop, take, get_or, Vec, refl, sym, ap, append_assoc}
+use Rattle.fit_cells.proofs.Common.{arith, map-append, take_more, default_writer, field_text, fields_text, is_blank, row_text, Row, HasAdded, HasRows}
 use Rattle.fit_cells.proofs.Common.{csv_text, written}
 use Rattle.std.specs.Global.{Global}
 use Rattle.std.proofs.lemmas.List.{append-nil}
@@ -40,11 +40,6 @@ rows_more row xs k d u v w within first second =
     let longer : map row (take (k + 1) xs) ≡ map row (take k xs) ++ (row (get_or xs k d) ∷ []) =
     ap (map row) (take_more xs k d within) ∙ map-append row (take k xs) (get_or xs k d ∷ []) in
     rw longer (rows_both first second)
-
--- the rows of all elements of a list
-pub rows_all : {X : Type 0} (row : X → Row) (xs : List X) (k : ℕ) (u v : Vec ℕ Global) → length xs ≤ k → HasRows (map row (take k xs)) u v
-    → HasRows (map row xs) u v
-rows_all row xs k u v end added = subst (λ ys. HasRows (map row ys) u v) (take_all k xs end) added
 
 -- more cells of a row
 pub fields_one : (cell : List ℕ) → fields_text default_writer (cell ∷ []) ≡ 44 ∷ field_text default_writer cell

@@ -7,7 +7,7 @@ use Rattle.std.specs.Int.{bit_at}
 use Rattle.std.proofs.Math.Bool.{not-not}
 use Rattle.std.proofs.lemmas.Bool.{agree_below_at, and_parts, cases_Bool, eq-eqb, ne_eqb}
 use Rattle.std.proofs.lemmas.Bool.Decides.{nat_tests}
-use Rattle.std.proofs.lemmas.Nat.Bits.{bit_at-zero, bit_at-lt, bit_at_or, and_pow}
+use Rattle.std.proofs.lemmas.Nat.Bits.{bit_at-lt, bit_at_or, and_pow}
 use Rattle.std.proofs.lemmas.List.{take_all}
 use Rattle.std.proofs.lemmas.List.Folds.{list_any_more}
 use Rattle.std.proofs.lemmas.Str.{is_utf8-from_IsUtf8, IsUtf8-from_ascii, IsUtf8-from_is_utf8}
@@ -26,9 +26,6 @@ has i b = bit_at (get_or KINDS b 0) i == 1
 -- what is seen of bytes together
 abbrev pub Seen : ℕ → List ℕ → Type 0
 Seen kinds bytes = (i : ℕ) → (bit_at kinds i == 1) ≡ list_any (has i) bytes
-
-pub seen_none : Seen 0 []
-seen_none i = ap (λ n. n == 1) (bit_at-zero i)
 
 either : (a b : ℕ) → a < 2 → b < 2 → (max a b == 1) ≡ ((a == 1) || (b == 1))
 either zero zero h k = refl

@@ -10,6 +10,7 @@ pub mod KindFacts
 pub mod LoneCells
 pub mod ClassFacts
 pub mod TextFacts
+pub mod TextParts
 mod SplitFacts
 pub mod ItemFacts
 pub mod RowFacts

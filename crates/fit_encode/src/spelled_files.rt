@@ -1,5 +1,5 @@
 //! Files that are kept as the bytes of their chain.
-ghost use Rattle.std.specs.Prelude.{◌≡◌, ◌↔◌, ◌==◌, ◌+◌, ◌-◌, ◌^◌, ◌<◌, ◌++◌, ◌∷◌, [], ℕ, List, OnErr, OnOk, IfErr, IfOk, IfSome, IsNone, IsTrue, length, min, false};
+ghost use Rattle.std.specs.Prelude.{◌≡◌, ◌↔◌, ◌==◌, ◌+◌, ◌-◌, ◌^◌, ◌<◌, ◌++◌, ◌∷◌, [], List, OnErr, OnOk, IfErr, IfOk, IsNone, IsTrue, length, min, false};
 ghost use Rattle.std.specs.Io.KnownBytes.{Appends};
 ghost use Rattle.fit_frame.specs.Header.{header_bytes};
 ghost use Rattle.fit_record.specs.Environment.{empty_environment};

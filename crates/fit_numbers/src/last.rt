@@ -1,5 +1,5 @@
 //! The last digits of a number, written into bytes.
-ghost use Rattle.std.specs.Prelude.{◌≡◌, ◌≤◌, ◌<◌, ◌++◌, ◌+◌, ◌/◌, ◌%◌, ◌∷◌, [], length, take};
+ghost use Rattle.std.specs.Prelude.{◌≡◌, ◌≤◌, ◌++◌, ◌+◌, ◌/◌, ◌%◌, ◌∷◌, [], length, take};
 ghost use Rattle.fit_numbers.specs.FixedText.{fraction, last_digits};
 
 use crate::triples::{ones, tens, three_last};

@@ -1,21 +1,10 @@
-use Rattle.fit_cells.proofs.Common.{◌≡◌, ◌∙◌, ◌<◌, ◌≤◌, ◌++◌, ℕ, List, length, take, drop, sym, ap, ap₂, subst, arith, cond}
-use Rattle.fit_cells.proofs.Common.{take_all, take_rest, drop_of_length-le, before_closing_zeros, bytes_text, is_plain, on_err_always, StillBegins}
-use Rattle.std.proofs.lemmas.List.{take-append-le, drop-append-le}
+use Rattle.fit_cells.proofs.Common.{◌≡◌, ◌∙◌, ◌<◌, ◌++◌, length, take, sym, ap, subst, arith, cond}
+use Rattle.fit_cells.proofs.Common.{take_rest, before_closing_zeros, bytes_text, is_plain, on_err_always, StillBegins}
+use Rattle.fit_cells.proofs.TextParts.{text_before, text_after}
 use Rattle.std.proofs.lemmas.List.Elements.{All-take}
 use Rattle.std.proofs.lemmas.Result.{IfOk-from_err, on_ok_weaker}
 use Rattle.std.specs.Result.{OnErr}
 use Rattle.fit_cells.proofs.strings.put_string.Goals as goal
-
--- what stands before and after the end of the old text
-before_end : (old part text : List ℕ) (end : ℕ) → text ≡ old ++ part → end ≡ length old → take end text ≡ old
-before_end old part text end is at =
-    let all : length old ≤ length old = omega arith in
-    ap₂ take at is ∙ take-append-le (length old) old part all ∙ take_all (length old) old all
-
-after_end : (old part text : List ℕ) (end : ℕ) → text ≡ old ++ part → end ≡ length old → drop end text ≡ part
-after_end old part text end is at =
-    let all : length old ≤ length old = omega arith in
-    ap₂ drop at is ∙ drop-append-le (length old) old part all ∙ ap (λ l. l ++ part) (drop_of_length-le old all)
 
 pub put_text-requires : goal.put_text-requires
 put_text-requires c = All-take (λ b. b < 256) c.text_len.result c.args.bytes.now c.requires
@@ -34,7 +23,7 @@ returns-then-is_plain-clause-ok c =
     let shown = before_closing_zeros bytes in
     let put = c.in_ok-put_text.ensures.ok ∙ ap (λ l. old ++ l) c.text_len.ensures.before in
     let part = take_rest c.as_slice.result.now c.len-start.result
-    ∙ after_end old shown c.as_slice.result.now c.len-start.result (c.as_slice.ensures.value ∙ put) end in
+    ∙ text_after old shown c.as_slice.result.now c.len-start.result (c.as_slice.ensures.value ∙ put) end in
     let plain = sym (ap is_plain part) ∙ sym c.is_plain.ensures ∙ c.if-is_plain.true in
     put ∙ ap (λ b. old ++ cond b shown (bytes_text bytes)) (sym plain)
 
@@ -46,9 +35,9 @@ returns-clause-ok c =
     let shown = before_closing_zeros bytes in
     let put = c.in_ok-put_text.ensures.ok ∙ ap (λ l. old ++ l) c.text_len.ensures.before in
     let part = take_rest c.as_slice.result.now c.len-start.result
-    ∙ after_end old shown c.as_slice.result.now c.len-start.result (c.as_slice.ensures.value ∙ put) end in
+    ∙ text_after old shown c.as_slice.result.now c.len-start.result (c.as_slice.ensures.value ∙ put) end in
     let other = sym (ap is_plain part) ∙ sym c.is_plain.ensures ∙ c.if-is_plain.false in
-    let back = c.truncate.ensures.items ∙ before_end old shown c.put_text.new.text.items c.len-start.result put end in
+    let back = c.truncate.ensures.items ∙ text_before old shown c.put_text.new.text.items c.len-start.result put end in
     on_ok_weaker c.put_bytes.result (λ written.
     written ∙ ap (λ t. t ++ bytes_text bytes) back ∙ ap (λ b. old ++ cond b shown (bytes_text bytes)) (sym other)) c.put_bytes.ensures.ok
 
@@ -58,5 +47,5 @@ returns-clause-kept c =
     let end : c.len-start.result ≡ length old = omega (arith, c.len-start.ensures, c.args.text.now.ok.0) in
     let bytes = c.args.bytes.now in
     let back = c.truncate.ensures.items
-    ∙ before_end old (take c.text_len.result bytes) c.put_text.new.text.items c.len-start.result c.in_ok-put_text.ensures.ok end in
+    ∙ text_before old (take c.text_len.result bytes) c.put_text.new.text.items c.len-start.result c.in_ok-put_text.ensures.ok end in
     subst (λ l. OnErr c.put_bytes.result (StillBegins l c.put_bytes.new.text.items)) back c.put_bytes.ensures.kept
