@@ -26,7 +26,7 @@ use test_known::{
 /// The empty file, with the sum of its header.
 const EMPTY: &str = "0E 20 00 00 00 00 00 00 2E 46 49 54 9C 85 00 00";
 
-/// The same with zeros for the sum of its header.
+/// The empty file, with zeros for the sum of its header.
 const EMPTY_WITH_ZEROS: &str = "0E 20 00 00 00 00 00 00 2E 46 49 54 00 00 A8 A3";
 
 /// No records, and a header of 12 bytes.

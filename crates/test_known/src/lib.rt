@@ -40,7 +40,7 @@ pub const TABLE_HEAD: &str =
 /// No records, and the checksum of the header.
 pub const EMPTY: [u8; 16] = *b"\x0E \0\0\0\0\0\0.FIT\x9C\x85\0\0";
 
-/// The same with zeros for the checksum of the header.
+/// No records, and zeros for the checksum of the header.
 pub const EMPTY_WITH_ZEROS: [u8; 16] = *b"\x0E \0\0\0\0\0\0.FIT\0\0\xA8\xA3";
 
 /// No records, and a header of 12 bytes.

@@ -62,7 +62,7 @@ fn as_text<S: Source>(
     assert!(rt; !sink.failed());
 }
 
-/// The same of `table`.
+/// Asserts what `table` returns for a source that ends or fails after that many bytes, and the text that is written.
 fn as_table<S: Source>(
     rt: &impl Abort,
     alloc: Global,

@@ -115,7 +115,7 @@ fn in_two(
     equal_at(rt, &left.rest.len(), &0, place);
 }
 
-/// The same for each place between the pieces. At its end the input comes whole.
+/// Feeds an input in two pieces, for each place between them. In the last turn it comes whole.
 fn cut_anywhere(rt: &impl Abort, alloc: Global, kind: Kind, known: &Known, wanted: Wanted) {
     let bytes = known.bytes;
     for k in 0..bytes.len() {

@@ -245,7 +245,7 @@ fn fields_of_files(rt: &HostRuntime, files: &[FitFile], back: bool) -> io::Resul
     Ok(())
 }
 
-/// The same of one file, and whether there was memory for what its records make known.
+/// Prints of each field of one file its cell or its items, and says whether there was memory for what its records make known.
 fn fields_of(rt: &HostRuntime, file: &FitFile, back: bool) -> io::Result<bool> {
     let mut env = Env::new(rt.alloc());
     for record_ in file.records.as_slice() {
@@ -259,7 +259,7 @@ fn fields_of(rt: &HostRuntime, file: &FitFile, back: bool) -> io::Result<bool> {
     Ok(true)
 }
 
-/// The same of one message.
+/// Prints of each field of one message its cell or its items.
 fn tell_values(rt: &HostRuntime, env: &Env, values: &Values, back: bool) -> io::Result<()> {
     for place in 0..8 {
         if let Some(field) = field_at(env, values, place) {
@@ -269,7 +269,7 @@ fn tell_values(rt: &HostRuntime, env: &Env, values: &Values, back: bool) -> io::
     Ok(())
 }
 
-/// The same of one field.
+/// Prints of one field its cell, or the items that are read from it.
 fn tell_field(rt: &HostRuntime, field: Field, back: bool) -> io::Result<()> {
     let (code, size, named, items) = field;
     if !has_shape(code, size, items) {

@@ -133,7 +133,7 @@ fn ends_are(alloc: Global, pieces: &[&[u8]], ends: &[usize]) -> Result<bool, Fau
     Ok(event_ends(alloc, pieces)?.as_slice() == ends)
 }
 
-/// The same of pieces of one byte.
+/// Whether the events of pieces of one byte end after that many bytes each.
 fn byte_ends_are(alloc: Global, bytes: &[u8], ends: &[usize]) -> Result<bool, Fault> {
     let mut single = Vec::new(alloc);
     for byte in bytes.chunks(1) {
