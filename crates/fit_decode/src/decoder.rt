@@ -45,15 +45,15 @@ pub struct Decoder<A: Allocator + Copy = Global> {
 impl<A: Allocator + Copy> Drop for Decoder<A> {
     fn drop(self) {
         let Decoder {
-            alloc: _,
-            reader: _reader,
-            sum: _sum,
-            env: _env,
-            in_progress: _in_progress,
-            stage: _stage,
-            position: _,
-            count: _,
             history: _history,
+            count: _,
+            position: _,
+            stage: _stage,
+            in_progress: _in_progress,
+            env: _env,
+            sum: _sum,
+            reader: _reader,
+            alloc: _,
         } = self;
     }
 }

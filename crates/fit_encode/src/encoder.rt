@@ -44,15 +44,15 @@ pub struct Encoder {
 impl Drop for Encoder {
     fn drop(self) {
         let Encoder {
-            env: _env,
-            out: _out,
-            declared: _,
-            size: _,
-            count: _,
-            failed: _,
-            finished: _,
-            head: _head,
             records: _records,
+            head: _head,
+            finished: _,
+            failed: _,
+            count: _,
+            size: _,
+            declared: _,
+            out: _out,
+            env: _env,
         } = self;
     }
 }

@@ -107,18 +107,27 @@ fn valid_number(code: u8, width: u8, bits: u64) -> Option<i128>
     }
 }
 
+/// A raw number of field `number` of a message, scaled as the profile says, where it lists the field.
+#[inline(always)]
+fn scaled(global: u16, number: u8, raw: i128) -> Option<Fixed>
+    requires least { neg_ℤ (pos (2 ^ 63)) ≤ℤ raw }
+    requires most { raw <ℤ pos (2 ^ 64) }
+    ensures value { IsValueOf (option_map (λ m. (raw, m)) (names.field global number)) result }
+    ensures few { IfSome result (λ v. v.decimals ≤ 8) }
+{
+    let info = info_of(global, number)?;
+    Some(fixed(raw, info))
+}
+
 /// The number of an item of field `number` of a message, by the base type code and the width of the items, scaled as the profile
 /// says, where it lists the field, and the item is a valid number.
-#[inline(always)]
 pub fn value_of(global: u16, number: u8, code: u8, width: u8, bits: u64) -> Option<Fixed>
     ensures value { IsValueOf (option_and_then
         (λ raw. option_map (λ m. (raw, m)) (names.field global number))
         (values.valid_number code width bits)) result }
     ensures few { IfSome result (λ v. v.decimals ≤ 8) }
 {
-    let raw = valid_number(code, width, bits)?;
-    let info = info_of(global, number)?;
-    Some(fixed(raw, info))
+    scaled(global, number, valid_number(code, width, bits)?)
 }
 
 /// The first of the items.
@@ -147,5 +156,5 @@ pub fn value_in<A: Allocator>(
     ensures few { IfSome result (λ v. v.decimals ≤ 8) }
 {
     let bits = first_item(items)?;
-    value_of(global, number, field.code, items.width, bits)
+    scaled(global, number, valid_number(field.code, items.width, bits)?)
 }

@@ -53,13 +53,13 @@ pub struct Stream {
 impl Drop for Stream {
     fn drop(self) {
         let Stream {
-            env: _env,
-            plans: _plans,
-            last: _,
-            names: _names,
-            is_new: _,
-            pushed: _pushed,
             alloc: _,
+            pushed: _pushed,
+            is_new: _,
+            names: _names,
+            last: _,
+            plans: _plans,
+            env: _env,
         } = self;
     }
 }

@@ -40,10 +40,10 @@ pub struct Env<A: Allocator = Global> {
 impl<A: Allocator> Drop for Env<A> {
     fn drop(self) {
         let Env {
-            places: _places,
-            lengths: _,
-            described: _described,
             alloc: _alloc,
+            described: _described,
+            lengths: _,
+            places: _places,
         } = self;
     }
 }

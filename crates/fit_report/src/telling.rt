@@ -34,9 +34,9 @@ pub struct Telling {
 impl Drop for Telling {
     fn drop(self) {
         let Telling {
-            decoder: _decoder,
-            text: _text,
             written: _,
+            text: _text,
+            decoder: _decoder,
         } = self;
     }
 }

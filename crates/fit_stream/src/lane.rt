@@ -27,14 +27,14 @@ pub(crate) struct Lane<R: Report> {
 impl<R: Report + Drop> Drop for Lane<R> {
     fn drop(self) {
         let Lane {
-            alloc: _,
-            telling: _telling,
-            reporter: _reporter,
-            sink: _sink,
-            fault: _,
-            first: _first,
-            fed: _fed,
             taken: _taken,
+            fed: _fed,
+            first: _first,
+            fault: _,
+            sink: _sink,
+            reporter: _reporter,
+            telling: _telling,
+            alloc: _,
         } = self;
     }
 }

@@ -47,10 +47,10 @@ pub(crate) struct OpenFile {
 impl Drop for OpenFile {
     fn drop(self) {
         let OpenFile {
-            header: _,
-            records: _records,
-            before: _before,
             part: _part,
+            before: _before,
+            records: _records,
+            header: _,
         } = self;
     }
 }

@@ -30,12 +30,12 @@ pub struct Reading<S: Source, A: Allocator + Copy = Global> {
 impl<S: Source + Drop, A: Allocator + Copy> Drop for Reading<S, A> {
     fn drop(self) {
         let Reading {
-            alloc: _,
-            source: _source,
-            count: _,
-            decoder: _decoder,
-            fault: _,
             taken: _taken,
+            fault: _,
+            decoder: _decoder,
+            count: _,
+            source: _source,
+            alloc: _,
         } = self;
     }
 }
