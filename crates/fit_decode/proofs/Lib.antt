@@ -3,7 +3,6 @@ pub mod Pieces
 pub mod Sections
 pub mod ClosingSums
 pub mod PieceTold
-pub mod Sizes
 pub mod Invariant
 pub mod Advancing
 pub mod Ended

@@ -2,7 +2,7 @@
 use Rattle.fit_decode.proofs.Common.{layout}
 use Rattle.fit_decode.specs.contracts.decoder.Decoder.{the_row}
 use Rattle.fit_decode.specs.contracts.decoder.Decoder.drop.{A-row}
-use Rattle.fit_decode.proofs.Sizes.{field_is_within}
+use Rattle.fit_record.proofs.Sizes.{field_is_within}
 use Rattle.fit_decode.proofs.decoder.Decoder.drop.Goals as goal
 
 pub drop-env-requires : goal.drop-env-requires

@@ -4,7 +4,7 @@ use Rattle.fit_decode.specs.contracts.decoder.Decoder.{the_row}
 use Rattle.fit_decode.specs.contracts.decoder.Decoder.feed.{A-row}
 use Rattle.fit_record.specs.declared.message.Record.TheVariants.{Values as Message}
 use Rattle.fit_chain.specs.declared.event.Event.TheVariants.{Item}
-use Rattle.fit_decode.proofs.Sizes.{field_is_within}
+use Rattle.fit_record.proofs.Sizes.{field_is_within}
 use Rattle.fit_decode.proofs.Advancing.{data_reading}
 use Rattle.fit_decode.proofs.Feeding.{Took, within, few_bytes, still_kept, feeds_event}
 use Rattle.fit_decode.proofs.Items.{record_taken}

@@ -4,7 +4,7 @@ use Rattle.fit_decode.specs.contracts.decoder.Decoder.feed_part.{A-row}
 use Rattle.fit_step.specs.declared.stop.Stop.TheVariants as stops
 use Rattle.fit_chain.specs.declared.event.Event.TheVariants as events
 use Rattle.fit_decode.specs.declared.section.Part.TheVariants as parts
-use Rattle.fit_decode.proofs.Sizes.{field_is_within}
+use Rattle.fit_record.proofs.Sizes.{field_is_within}
 use Rattle.fit_decode.proofs.Advancing.{at_section, header_fresh, header_open, data_reading, sum_few}
 use Rattle.fit_decode.proofs.Sections.{header_fed, data_fed}
 use Rattle.fit_decode.proofs.ClosingSums.{sum_fed}

@@ -1,7 +1,7 @@
 use Rattle.fit_decode.proofs.Common.{layout}
 use Rattle.fit_decode.specs.contracts.decoder.Decoder.{the_row}
 use Rattle.fit_decode.specs.contracts.decoder.Decoder.held.{A-row}
-use Rattle.fit_decode.proofs.Sizes.{field_is_within}
+use Rattle.fit_record.proofs.Sizes.{field_is_within}
 use Rattle.fit_decode.proofs.Holding.{small_seen, held_seen, let_go_seen, ended_seen, limited_seen}
 use Rattle.fit_decode.proofs.decoder.Decoder.held.Goals as goal
 

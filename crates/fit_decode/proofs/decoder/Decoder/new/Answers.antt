@@ -2,7 +2,7 @@ use Rattle.fit_decode.proofs.Common.{refl, layout}
 use Rattle.fit_decode.specs.contracts.decoder.Decoder.{the_row}
 use Rattle.fit_decode.specs.contracts.decoder.Decoder.new.{A-row}
 use Rattle.fit_decode.proofs.Invariant.{begins_kept}
-use Rattle.fit_decode.proofs.Sizes.{field_is_within}
+use Rattle.fit_record.proofs.Sizes.{field_is_within}
 use Rattle.fit_decode.proofs.decoder.Decoder.new.Goals as goal
 
 pub new-requires-3 : goal.new-requires-3

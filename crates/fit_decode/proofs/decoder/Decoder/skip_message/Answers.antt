@@ -1,7 +1,7 @@
 use Rattle.fit_decode.proofs.Common.{[], ◌∷◌, ◌++◌, refl, ap, ◌∙◌, take, arith, append-nil, record_bytes, layout, slice_is_bytes, refusal_of}
 use Rattle.fit_decode.specs.contracts.decoder.Decoder.{the_row}
 use Rattle.fit_decode.specs.contracts.decoder.Decoder.skip_message.{A-row}
-use Rattle.fit_decode.proofs.Sizes.{field_is_within}
+use Rattle.fit_record.proofs.Sizes.{field_is_within}
 use Rattle.fit_record.specs.declared.message.Record.TheVariants.{Values as Message}
 use Rattle.fit_chain.specs.Events.{known_after}
 use Rattle.fit_decode.proofs.Feeding.{none_refused, was_viable}

@@ -1,7 +1,7 @@
 use Rattle.fit_decode.proofs.Common.{[], ◌++◌, take, refl, ap, sym, subst, append-nil, AreEvents, layout, slice_is_bytes, refusal_of}
 use Rattle.fit_decode.specs.contracts.decoder.Decoder.{the_row}
 use Rattle.fit_decode.specs.contracts.decoder.Decoder.skip_records.{A-row}
-use Rattle.fit_decode.proofs.Sizes.{field_is_within}
+use Rattle.fit_record.proofs.Sizes.{field_is_within}
 use Rattle.fit_decode.proofs.Feeding.{none_refused, was_viable}
 use Rattle.fit_decode.proofs.Skipping.{few_skipped, skipped_kept, records_skipped, used_more, used_none}
 use Rattle.fit_decode.proofs.decoder.Decoder.skip_records.Goals as goal

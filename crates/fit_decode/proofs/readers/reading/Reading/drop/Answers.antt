@@ -2,7 +2,7 @@
 use Rattle.fit_decode.proofs.Common.{layout}
 use Rattle.fit_decode.specs.contracts.readers.reading.Reading.{the_row}
 use Rattle.fit_decode.specs.contracts.readers.reading.Reading.drop.{S-row, A-row}
-use Rattle.fit_decode.proofs.Sizes.{field_is_within}
+use Rattle.fit_record.proofs.Sizes.{field_is_within}
 use Rattle.fit_decode.proofs.readers.reading.Reading.drop.Goals as goal
 
 pub drop-decoder-requires : goal.drop-decoder-requires

@@ -7,7 +7,7 @@ use Rattle.fit_decode.specs.Answers.{Seen}
 use Rattle.fit_decode.specs.Reads.{channel}
 use Rattle.fit_decode.proofs.NextRead.{after_file, comes_after, end_not_given, fault_given, keeps, next_chain, next_end, next_fault, next_file, next_given}
 use Rattle.fit_decode.proofs.NextRead.{next_good, NextGiven}
-use Rattle.fit_decode.proofs.Sizes.{field_is_within}
+use Rattle.fit_record.proofs.Sizes.{field_is_within}
 use Rattle.fit_decode.proofs.readers.reading.Reading.next.Goals as goal
 
 pub returns-in-Some-clause-latched : goal.returns-in-Some-clause-latched
