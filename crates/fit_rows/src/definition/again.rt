@@ -52,26 +52,11 @@ fn mark_of(definition: &MessageDef) -> u64 {
     mark
 }
 
-/// Whether two developer fields have the same number, size and developer data index.
-fn is_same_dev(a: &DevDef, b: &DevDef) -> bool
-    ensures { IsTrue result ↔ (a.now ≡ b.now) }
-{
-    a.number == b.number && a.size == b.size && a.index == b.index
-}
-
 /// Whether the developer fields are the same one by one.
 fn are_same_devs(a: &[DevDef], b: &[DevDef]) -> bool
     ensures { IsTrue result ↔ (a.now ≡ b.now) }
 {
-    if a.len() != b.len() {
-        return false;
-    }
-    for (place, field) in a.iter().enumerate() {
-        if !is_same_dev(field, &b[place]) {
-            return false;
-        }
-    }
-    true
+    a == b
 }
 
 /// Whether definitions have the same developer fields, or both no such part.
