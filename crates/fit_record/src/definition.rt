@@ -128,18 +128,11 @@ pub(crate) fn are_same<A: Allocator>(a: &MessageDef<A>, b: &MessageDef<A>) -> bo
     same_fields(a.fields.as_slice(), b.fields.as_slice())
 }
 
-/// Whether two lists of fields are the same.
-fn all_same(a: &[FieldDef], b: &[FieldDef]) -> bool
-    ensures { IsTrue result ↔ (a.now ≡ b.now) }
-{
-    a == b
-}
-
 /// Whether two lists of fields are the same. Where they differ, the last one mostly does, so it is compared first.
 pub fn same_fields(a: &[FieldDef], b: &[FieldDef]) -> bool
     ensures { IsTrue result ↔ (a.now ≡ b.now) }
 {
-    a.last() == b.last() && all_same(a, b)
+    a.last() == b.last() && a == b
 }
 
 /// The same definition, in memory of its own.
