@@ -24,6 +24,16 @@ key_at (f ∷ fields) (code ∷ coded) (n ∷ namings) zero e within more long =
 key_at (f ∷ fields) (code ∷ coded) (n ∷ namings) (suc k) e within more long =
     key_at fields coded namings k e (omega (arith, within)) (omega (arith, more)) (omega (arith, long))
 
+-- that of a developer field
+pub key_is : (fields : List DevDef) (coded : List ℕ) (namings : List Naming) (k : ℕ) (e : DevKey) → k < length fields
+    → length coded ≡ length fields → length namings ≡ length fields
+    → get_or (dev_keys fields coded namings) k e
+    ≡ dev_key (get_or fields k nothing) (get_or coded k 0) (unwrap_or (slice_get namings k) nameless)
+key_is fields coded namings k e within more long =
+    key_at fields coded namings k e within more long
+    ∙ ap (λ o. dev_key (get_or fields k nothing) (get_or coded k 0) (unwrap_or o nameless))
+    (sym (slice_get-get_or namings k nameless (omega (arith, within, long))))
+
 -- one developer field more
 pub keys_taken : (fields : List DevDef) (coded : List ℕ) (namings : List Naming) (k : ℕ) → k < length fields
     → length coded ≡ length fields → length namings ≡ length fields
@@ -32,7 +42,5 @@ pub keys_taken : (fields : List DevDef) (coded : List ℕ) (namings : List Namin
 keys_taken fields coded namings k within more long =
     let keys = dev_keys fields coded namings in
     let none = dev_key nothing 0 nameless in
-    let there = slice_get-get_or namings k nameless (omega (arith, within, long)) in
     take_more keys k none (omega (arith, within, length-dev_keys fields coded namings more long))
-    ∙ ap (λ (x : DevKey). take k keys ++ (x ∷ [])) (key_at fields coded namings k none within more long
-    ∙ ap (λ o. dev_key (get_or fields k nothing) (get_or coded k 0) (unwrap_or o nameless)) (sym there))
+    ∙ ap (λ (x : DevKey). take k keys ++ (x ∷ [])) (key_is fields coded namings k none within more long)

@@ -1,11 +1,13 @@
 //! Cuts texts at their commas.
-ghost use Rattle.std.specs.Prelude.{◌≡◌, ◌∷◌, ◌++◌, ℕ, List, IfSome, IsSomeAnd};
+ghost use Rattle.std.specs.Prelude.{◌≡◌, ◌∷◌, ◌++◌, ℕ, List, IfSome, IsNone, IsSomeAnd};
 ghost use Rattle.fit_texts.specs.Commas.{HasNoCommas};
 
 /// What stands before the first comma of a text, and what is left from that comma on.
 pub fn before_comma(text: &[u8]) -> Option<(&[u8], &[u8])>
-    ensures { (cell : List ℕ) (more : List ℕ) → HasNoCommas cell → text.now ≡ cell ++ 44 ∷ more
+    ensures cut { (cell : List ℕ) (more : List ℕ) → HasNoCommas cell
+        → text.now ≡ cell ++ 44 ∷ more
         → IsSomeAnd result (λ p. (p.0.now ≡ cell) × (p.1.now ≡ 44 ∷ more)) }
+    ensures none { HasNoCommas text.now → IsNone result }
 {
     for (place, byte) in text.iter().enumerate() {
         if *byte == b',' {

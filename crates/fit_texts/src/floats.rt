@@ -15,6 +15,8 @@ use std::alloc::AllocError;
 pub fn is_lone_float(code: Code, size: u8) -> bool
     ensures class { IsTrue result → (base_type code.0).class ≡ Float }
     ensures width { IsTrue result → (base_type code.0).width ≡ size }
+    ensures all { (base_type code.0).class ≡ Float → (base_type code.0).width ≡ size
+        → IsTrue result }
 {
     code.class() == Class::Float && code.width() == size
 }

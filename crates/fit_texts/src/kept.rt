@@ -95,7 +95,7 @@ impl<T: Drop> ByLocal<T> {
     /// Whether what is kept for a local message type is known to be that of its definition.
     #[inline(always)]
     pub fn is_current(&self, local: u8) -> bool
-        ensures { IsTrue result → slice_get self.now.current local ≡ Some true }
+        ensures { IsTrue result ↔ (slice_get self.now.current local ≡ Some true) }
     {
         match self.current.get(local as usize) {
             Some(is_current) => *is_current,

@@ -1,5 +1,5 @@
 //! Fields of bytes.
-ghost use Rattle.std.specs.Prelude.{◌≡◌, ◌≤◌, ◌+◌, ◌++◌, IfOk, IsTrue, length};
+ghost use Rattle.std.specs.Prelude.{◌≡◌, ◌↔◌, ◌≤◌, ◌+◌, ◌++◌, IfOk, IsTrue, length};
 ghost use Rattle.fit_cells.specs.Cells.{bytes_text};
 ghost use Rattle.fit_texts.specs.Octets.{IsOfBytes};
 ghost use Rattle.fit_texts.specs.Sheets.{and_sheet};
@@ -12,7 +12,7 @@ use std::alloc::AllocError;
 /// Whether a field of this base type and size is shown byte by byte: its base type is byte, or has a width that doesn't divide the
 /// size. An empty field isn't.
 pub fn is_of_bytes(code: Code, size: u8) -> bool
-    ensures { IsTrue result → IsOfBytes code.0 size }
+    ensures { IsTrue result ↔ IsOfBytes code.0 size }
 {
     size > 0 && (code.class() == Class::Bytes || width_of(code, size) != code.width())
 }

@@ -1,5 +1,5 @@
 //! A text that is put after many others.
-ghost use Rattle.std.specs.Prelude.{◌≡◌, ◌≤◌, ◌+◌, ◌++◌, ℕ, List, IfOk, IsSomeAnd, OnOk, length, take};
+ghost use Rattle.std.specs.Prelude.{◌≡◌, ◌≤◌, ◌+◌, ◌++◌, ℕ, List, IfOk, IfSome, IsSomeAnd, OnOk, length, take};
 ghost use Rattle.fit_texts.specs.Sheets.{and_sheet};
 
 use crate::cut::after_beginning;
@@ -93,13 +93,16 @@ impl Stamp {
     }
 
     /// How many bytes the text has.
-    pub fn len(&self) -> usize {
+    pub fn len(&self) -> usize
+        ensures { result ≡ length self.now }
+    {
         self.used
     }
 
     /// What comes after it in a text that begins with it.
     pub fn after<'a>(&self, text: &'a [u8]) -> Option<&'a [u8]>
-        ensures { (left : List ℕ) → text.now ≡ self.now ++ left
+        ensures some { IfSome result (λ left. text.now ≡ self.now ++ left.now) }
+        ensures every { (left : List ℕ) → text.now ≡ self.now ++ left
             → IsSomeAnd result (λ found. found.now ≡ left) }
     {
         let (own, _) = self.padded.as_slice().split_at(self.used);

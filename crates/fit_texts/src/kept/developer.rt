@@ -1,5 +1,5 @@
 //! What is kept of the developer fields of a definition.
-ghost use Rattle.std.specs.Prelude.{◌≡◌, ◌<◌, [], IfOk, IsTrue, length, option_map, slice_get, unwrap_or};
+ghost use Rattle.std.specs.Prelude.{◌≡◌, ◌↔◌, ◌<◌, [], IfOk, IsTrue, length, option_map, slice_get, unwrap_or};
 ghost use Rattle.fit_profile.specs.Described.{nameless, namings_at};
 ghost use Rattle.fit_texts.specs.MessageKeys.{dev_key, dev_keys};
 
@@ -55,12 +55,12 @@ impl KeptDev {
 
     /// Whether it has this name, unit, code and size.
     fn is(&self, name: &str, unit: &str, code: u8, size: u8) -> bool
-        ensures { IsTrue result → self.now ≡ record {
+        ensures { IsTrue result ↔ (self.now ≡ record {
           name = name.now;
           unit = unit.now;
           code = code;
           size = size;
-        } }
+        }) }
     {
         self.code == code
             && self.size == size
@@ -106,8 +106,8 @@ fn kept_dev(
 /// Whether what is kept is a developer field of this local message type by its described code, with the name and the unit that it
 /// has after the records of a stream.
 fn is_dev(kept: &KeptDev, stream: &Stream, local: u8, place: u8, field: &DevDef, code: u8) -> bool
-    ensures { IsTrue result → kept.now ≡ dev_key field.now code
-        (unwrap_or (slice_get (namings_at stream.now local) place) nameless) }
+    ensures { IsTrue result ↔ (kept.now ≡ dev_key field.now code
+        (unwrap_or (slice_get (namings_at stream.now local) place) nameless)) }
 {
     let (name, unit) = stream.dev_texts(local, place);
     let unit = or_empty(unit);
@@ -155,8 +155,8 @@ pub(crate) fn are_devs(
     requires few { length fields.now < 256 }
     requires codes { length dev_codes.now ≡ length fields.now }
     requires namings { length (namings_at stream.now local) ≡ length fields.now }
-    ensures { IsTrue result → kept.now
-        ≡ dev_keys fields.now dev_codes.now (namings_at stream.now local) }
+    ensures { IsTrue result ↔ (kept.now
+        ≡ dev_keys fields.now dev_codes.now (namings_at stream.now local)) }
 {
     if kept.len() != fields.len() {
         return false;

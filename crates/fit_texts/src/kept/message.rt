@@ -1,5 +1,5 @@
 //! What is kept of a definition and its developer fields.
-ghost use Rattle.std.specs.Prelude.{◌≡◌, IfOk, IsTrue, Some, length};
+ghost use Rattle.std.specs.Prelude.{◌≡◌, ◌↔◌, IfOk, IsTrue, Some, length};
 ghost use Rattle.fit_record.specs.Environment.{defined_at};
 ghost use Rattle.fit_record.specs.Sound.{IsSound};
 ghost use Rattle.fit_profile.specs.Looks.{known};
@@ -54,7 +54,7 @@ impl KeptMessage {
     pub fn is(&self, stream: &Stream, local: u8, defined: &Defined) -> bool
         requires place { defined_at (known stream.now) local ≡ Some defined.now }
         requires sound { IsSound defined.now }
-        ensures { IsTrue result → self.now ≡ message_key stream.now local defined.now }
+        ensures { IsTrue result ↔ (self.now ≡ message_key stream.now local defined.now) }
     {
         let definition = &defined.definition;
         let dev = dev_slice(&definition.dev);
