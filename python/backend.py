@@ -1,10 +1,12 @@
 """Makes the wheel of gazhdor, as pip asks for it (PEP 517), with nothing but Python's own library.
 
-The wheel has what the folder gazhdor/ has, and beside it the version and the library of the tree above this folder. Its tag names
-the oldest C library that will do. The same files make the same bytes, on every machine."""
+The wheel has what the folder gazhdor/ has, and beside it the version and the library of the tree above this folder, for this machine's
+processor, or for the one that the setting `processor` names. Its tag names the oldest C library that will do. The same files make the
+same bytes, on every machine."""
 import base64
 import hashlib
 import os
+import platform
 import re
 import zipfile
 
@@ -37,10 +39,30 @@ def _read(*parts):
         raise FileNotFoundError(f"{path} isn't there: the wheel is made where the whole tree is, by pip 21.3 or later") from None
 
 
-def _tag(library):
+def _processor(settings):
+    """The processor that the wheel is for, as `uname -m` names it."""
+    system, machine = platform.system(), platform.machine()
+    named = (settings or {}).get("processor")
+    if named:
+        system, machine = "Linux", named
+    if system != "Linux" or machine not in ("x86_64", "aarch64"):
+        raise RuntimeError(f"gazhdor: there are libraries for x86_64 Linux and for aarch64 Linux, and none for {machine} {system}")
+    return machine
+
+
+def _library(processor):
+    """The released library, where it is what release/SHA256SUMS says."""
+    place = f"release/{processor}-linux/libgazhdor.so"
+    library = _read(TREE, *place.split("/"))
+    if f"{hashlib.sha256(library).hexdigest()}  {place}\n".encode() not in _read(TREE, "release", "SHA256SUMS"):
+        raise RuntimeError(f"{os.path.join(TREE, place)} is damaged: it is not what release/SHA256SUMS says")
+    return library
+
+
+def _tag(library, processor):
     """The library names each version of the C library that it needs; none is older than 2.17 where pip runs today."""
     minor = max([17] + [int(number) for number in re.findall(rb"\0GLIBC_2\.(\d+)", library)])
-    return f"py3-none-manylinux_2_{minor}_x86_64"
+    return f"py3-none-manylinux_2_{minor}_{processor}"
 
 
 def _record(files):
@@ -52,11 +74,12 @@ def _record(files):
 
 
 def build_wheel(wheel_directory, config_settings=None, metadata_directory=None):
+    processor = _processor(config_settings)
     module = {name: _read(HERE, "gazhdor", name) for name in os.listdir(os.path.join(HERE, "gazhdor")) if name != "__pycache__"}
     module["VERSION"] = _read(TREE, "VERSION")
-    module["libgazhdor.so"] = _read(TREE, "release", "libgazhdor.so")
+    module["libgazhdor.so"] = _library(processor)
     version = module["VERSION"].decode().strip()
-    tag = _tag(module["libgazhdor.so"])
+    tag = _tag(module["libgazhdor.so"], processor)
     about = f"gazhdor-{version}.dist-info"
     files = [(f"gazhdor/{name}", module[name]) for name in sorted(module)]
     files += [

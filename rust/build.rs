@@ -1,7 +1,12 @@
 //! Links libgazhdor.a: that of the folder which GAZHDOR_LIB_DIR names, else that of lib/, which a packed crate has, else that of
-//! release/ in the tree above.
+//! release/ in the tree above. The last two have one for each processor, and their SHA-256.
 use std::path::{Path, PathBuf};
 use std::{env, fs};
+
+#[path = "sha256.rs"]
+pub mod sha256;
+
+const LIBRARY: &str = "libgazhdor.a";
 
 fn variable(name: &str) -> String {
     env::var(name).unwrap_or_default()
@@ -9,13 +14,13 @@ fn variable(name: &str) -> String {
 
 fn main() {
     println!("cargo:rerun-if-env-changed=GAZHDOR_LIB_DIR");
-    see_target(&variable("CARGO_CFG_TARGET_OS"), &variable("CARGO_CFG_TARGET_ARCH"));
+    let machine = machine_of(&variable("CARGO_CFG_TARGET_OS"), &variable("CARGO_CFG_TARGET_ARCH"));
     let here = PathBuf::from(variable("CARGO_MANIFEST_DIR"));
     let folder = match env::var_os("GAZHDOR_LIB_DIR") {
         Some(named) => PathBuf::from(named),
-        None => folder_of("libgazhdor.a", &here.join("lib"), &here.join("../release")),
+        None => whole(&folder_of("SHA256SUMS", &here.join("lib"), &here.join("../release")), &machine),
     };
-    let archive = folder.join("libgazhdor.a");
+    let archive = folder.join(LIBRARY);
     see_library(&archive, &variable("CARGO_PKG_VERSION"));
     println!("cargo:rerun-if-changed={}", archive.display());
     println!("cargo:rustc-link-search=native={}", folder.display());
@@ -33,23 +38,46 @@ pub fn folder_of(file: &str, packed: &Path, tree: &Path) -> PathBuf {
     }
 }
 
-/// Stops where the library is for another target.
-pub fn see_target(os: &str, processor: &str) {
-    if (os, processor) != ("linux", "x86_64") {
-        panic!("the library of gazhdor is for x86_64 Linux, and the target is {processor} {os}");
+/// The name of the folder that has a target's library. Stops where there is none for it.
+pub fn machine_of(os: &str, processor: &str) -> String {
+    if os != "linux" || !["x86_64", "aarch64"].contains(&processor) {
+        panic!(
+            "the libraries of gazhdor are for x86_64 Linux and for aarch64 Linux, and the target is {processor} {os}"
+        );
     }
+    format!("{processor}-linux")
+}
+
+/// The folder of a machine's library, which stops where that isn't what SHA256SUMS beside the folder says of it.
+pub fn whole(folders: &Path, machine: &str) -> PathBuf {
+    let folder = folders.join(machine);
+    let archive = folder.join(LIBRARY);
+    let sums = folders.join("SHA256SUMS");
+    println!("cargo:rerun-if-changed={}", sums.display());
+    let told = read(&sums);
+    let sum = sha256::hexadecimal(&read(&archive));
+    let place = format!("/{machine}/{LIBRARY}");
+    let line_of = |line: &str| line.starts_with(&format!("{sum}  ")) && line.ends_with(&place);
+    if !String::from_utf8_lossy(&told).lines().any(line_of) {
+        panic!("{} is damaged: it is not what {} says", archive.display(), sums.display());
+    }
+    folder
 }
 
 /// Stops where there is no library, or one of another version: the text of its version ends in a zero, as every text in C.
 pub fn see_library(archive: &Path, version: &str) {
-    let bytes = match fs::read(archive) {
-        Ok(bytes) => bytes,
-        Err(error) => {
-            panic!("{} can't be read: {error}; GAZHDOR_LIB_DIR names the folder that has it", archive.display())
-        }
-    };
+    let bytes = read(archive);
     let text = format!("{version}\0");
     if !bytes.windows(text.len()).any(|window| window == text.as_bytes()) {
         panic!("{} isn't the library of gazhdor {version}", archive.display());
+    }
+}
+
+fn read(path: &Path) -> Vec<u8> {
+    match fs::read(path) {
+        Ok(bytes) => bytes,
+        Err(error) => {
+            panic!("{} can't be read: {error}; GAZHDOR_LIB_DIR names the folder that has {LIBRARY}", path.display())
+        }
     }
 }

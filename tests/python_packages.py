@@ -7,6 +7,7 @@ import importlib.util
 import io
 import json
 import os
+import platform
 import re
 import shutil
 import subprocess
@@ -17,10 +18,13 @@ import unittest
 import zipfile
 
 RIDE = os.path.abspath("examples/ride.fit")
+MACHINE = f"{platform.machine()}-linux"
+LIBRARY = f"release/{MACHINE}/libgazhdor.so"
 TREE = os.path.abspath("python")
 WORK = sys.argv.pop()
 with open("VERSION") as file:
     VERSION = file.read().strip()
+SONAME = ".".join(VERSION.split(".")[:2])
 
 
 def run(*words, python=sys.executable, **how):
@@ -68,7 +72,7 @@ class Wheel(unittest.TestCase):
         with zipfile.ZipFile(self.wheel) as wheel:
             files = {name: wheel.read(name) for name in wheel.namelist()}
         wanted = {f"gazhdor/{name}": f"python/gazhdor/{name}" for name in os.listdir("python/gazhdor") if name != "__pycache__"}
-        wanted.update({"gazhdor/VERSION": "VERSION", "gazhdor/libgazhdor.so": "release/libgazhdor.so", f"{about}/LICENSE": "LICENSE"})
+        wanted.update({"gazhdor/VERSION": "VERSION", "gazhdor/libgazhdor.so": LIBRARY, f"{about}/LICENSE": "LICENSE"})
         for name, path in wanted.items():
             with open(path, "rb") as file:
                 self.assertEqual(files[name], file.read())
@@ -82,12 +86,12 @@ class Wheel(unittest.TestCase):
 
     def test_tag(self):
         """The tag names a C library that has every version of names which the library asks for."""
-        tag = re.search(r"-py3-none-manylinux_2_(\d+)_x86_64\.whl$", self.wheel)
+        tag = re.search(rf"-py3-none-manylinux_2_(\d+)_{platform.machine()}\.whl$", self.wheel)
         with zipfile.ZipFile(self.wheel) as wheel:
             told = wheel.read(f"gazhdor-{VERSION}.dist-info/WHEEL").decode()
-        self.assertEqual(told.splitlines()[2:], ["Root-Is-Purelib: false", f"Tag: py3-none-manylinux_2_{tag.group(1)}_x86_64"])
+        self.assertEqual(told.splitlines()[2:], ["Root-Is-Purelib: false", f"Tag: py3-none-manylinux_2_{tag.group(1)}_{platform.machine()}"])
         has(self, shutil.which("objdump"), "objdump, so the tag isn't compared with what the library needs")
-        said = subprocess.run(["objdump", "-T", "release/libgazhdor.so"], stdout=subprocess.PIPE, check=True).stdout.decode()
+        said = subprocess.run(["objdump", "-T", LIBRARY], stdout=subprocess.PIPE, check=True).stdout.decode()
         needed = [tuple(map(int, number.split("."))) for number in re.findall(r"\(?GLIBC_([\d.]+)\)?", said)]
         self.assertTrue(needed)
         self.assertEqual(int(tag.group(1)), max(17, max(needed)[1]))
@@ -112,10 +116,30 @@ class Wheel(unittest.TestCase):
             self.assertEqual((done.stdout.decode(), done.stderr), (f"{VERSION} ok {to}/gazhdor/__init__.py\n", b""))
             listed.append(sorted(os.listdir(os.path.join(to, "gazhdor"))))
         self.assertEqual(listed[0], listed[1])
-        elsewhere = ["--platform", "manylinux_2_17_aarch64", "--only-binary", ":all:", "--target", to]
+        elsewhere = ["--platform", "manylinux_2_17_riscv64", "--only-binary", ":all:", "--target", to]
         other = run("-m", "pip", "install", "--no-index", *elsewhere, self.wheel)
         self.assertNotEqual(other.returncode, 0)
         self.assertIn(b"is not a supported wheel on this platform", other.stderr)
+
+    def test_machines(self):
+        """A wheel for the processor that is named, of those that there are; and none of a library that is damaged."""
+        backend = importlib.util.module_from_spec(importlib.util.spec_from_file_location("backend", os.path.join(TREE, "backend.py")))
+        backend.__spec__.loader.exec_module(backend)
+        self.assertEqual(backend.build_wheel(WORK, {"processor": platform.machine()}), os.path.basename(self.wheel))
+        with self.assertRaisesRegex(RuntimeError, "libraries for x86_64 Linux and for aarch64 Linux, and none for riscv64 Linux"):
+            backend.build_wheel(WORK, {"processor": "riscv64"})
+        backend.TREE = os.path.join(WORK, "damaged")
+        os.makedirs(os.path.join(backend.TREE, "release", MACHINE))
+        for name in ("VERSION", "LICENSE", "release/SHA256SUMS", LIBRARY):
+            shutil.copy(name, os.path.join(backend.TREE, name))
+        self.assertEqual(backend.build_wheel(WORK), os.path.basename(self.wheel))
+        with open(os.path.join(backend.TREE, LIBRARY), "r+b") as file:
+            file.seek(5000)
+            byte = file.read(1)[0]
+            file.seek(5000)
+            file.write(bytes([byte ^ 1]))
+        with self.assertRaisesRegex(RuntimeError, "libgazhdor.so is damaged: it is not what release/SHA256SUMS says"):
+            backend.build_wheel(WORK)
 
     def test_no_library(self):
         """Where the tree isn't whole, the backend says so."""
@@ -141,7 +165,7 @@ except ImportError as error:
         cls.alone = os.path.join(WORK, "alone")
         shutil.copytree("python/gazhdor", os.path.join(cls.alone, "gazhdor"))
         shutil.copy("VERSION", os.path.join(cls.alone, "gazhdor"))
-        cls.library = shutil.copy("release/libgazhdor.so", os.path.join(cls.alone, "gazhdor"))
+        cls.library = shutil.copy(LIBRARY, os.path.join(cls.alone, "gazhdor"))
         with open(cls.library, "rb") as file:
             cls.bytes = file.read()
 
@@ -167,23 +191,34 @@ except ImportError as error:
         python = os.path.join(tree, "python")
         shutil.copytree("python/gazhdor", os.path.join(python, "gazhdor"))
         shutil.copy("VERSION", tree)
-        os.mkdir(os.path.join(tree, "release"))
-        shutil.copy("release/libgazhdor.so", os.path.join(tree, "release"))
+        os.makedirs(os.path.join(tree, "release", MACHINE))
+        for name in ("release/SOURCES", LIBRARY):
+            shutil.copy(name, os.path.join(tree, name))
         says = "import gazhdor; print(gazhdor.__version__, gazhdor._library._name)"
-        self.assertEqual(imported(python, says).stdout.decode(), f"{VERSION} {tree}/release/libgazhdor.so\n")
+        self.assertEqual(imported(python, says).stdout.decode(), f"{VERSION} {tree}/{LIBRARY}\n")
         self.assertEqual(imported(TREE, USE).stdout.decode(), f"{VERSION} ok {TREE}/gazhdor/__init__.py\n")
-        for name in ("VERSION", "release/libgazhdor.so"):
+        for name in ("VERSION", LIBRARY):
             shutil.copy(os.path.join(tree, name), os.path.join(python, "gazhdor"))
             with open(os.path.join(tree, name), "wb") as file:
                 file.write(b"another")
         self.assertEqual(imported(python, says).stdout.decode(), f"{VERSION} {python}/gazhdor/libgazhdor.so\n")
+
+    def test_another_tree(self):
+        """A folder release/ above a module that stands in no tree of its own is none of ours."""
+        folder = os.path.join(WORK, "an application")
+        shutil.copytree("python/gazhdor", os.path.join(folder, "modules", "gazhdor"))
+        os.makedirs(os.path.join(folder, "release", MACHINE))
+        for name in ("VERSION", "release/SOURCES", LIBRARY):
+            shutil.copy(name, os.path.join(folder, name))
+        done = imported(os.path.join(folder, "modules"), self.SAY)
+        self.assertEqual(done.stdout.decode().splitlines()[:2], ["gazhdor.errors", "LibraryMissing"])
 
     def test_missing(self):
         none = os.path.join(WORK, "none.so")
         self.refused("LibraryMissing", none, f"{none} isn't there, which GAZHDOR_LIBRARY names", GAZHDOR_LIBRARY=none)
         os.rename(self.library, none + ".away")
         try:
-            what = f"{self.library} isn't there, and the system has no libgazhdor.so.0: install the wheel, or set GAZHDOR_LIBRARY"
+            what = f"{self.library} isn't there, and the system has no libgazhdor.so.{SONAME}: install the wheel, or set GAZHDOR_LIBRARY"
             self.refused("LibraryMissing", self.library, what)
         finally:
             os.rename(none + ".away", self.library)
@@ -212,12 +247,12 @@ except ImportError as error:
 
     def test_machine(self):
         """A module that was unpacked on another machine than pip would allow."""
-        for name, value, machine in (("machine", "aarch64", "aarch64 Linux"), ("system", "Darwin", "x86_64 Darwin")):
+        for name, value, machine in (("machine", "riscv64", "riscv64 Linux"), ("system", "Darwin", f"{platform.machine()} Darwin")):
             before = f"import platform\nplatform.{name} = lambda: {value!r}\n"
             self.refused("WrongMachine", None, f"this is 64-bit Python on {machine}", before)
-        # The library itself for another processor, number 183.
-        arm = self.written("arm.so", self.bytes[:18] + (183).to_bytes(2, "little") + self.bytes[20:])
-        self.refused("LibraryUnusable", arm, f"{arm} can't be loaded: ", GAZHDOR_LIBRARY=arm)
+        # The library itself for another processor, number 243.
+        other = self.written("riscv.so", self.bytes[:18] + (243).to_bytes(2, "little") + self.bytes[20:])
+        self.refused("LibraryUnusable", other, f"{other} can't be loaded: ", GAZHDOR_LIBRARY=other)
 
     def test_shell(self):
         done = run("-m", "gazhdor", "check", RIDE, env=dict(os.environ, PYTHONPATH=TREE, GAZHDOR_LIBRARY="none.so"))

@@ -1,7 +1,7 @@
 //! Checks FIT files, which watches and bicycle computers write, reads their messages, and converts them to text and back.
 //!
 //! Each function works on bytes in memory and keeps nothing, so any number of threads may call at once; a [`Stream`] takes bytes that
-//! come in pieces. What a call returns is proved: this crate is a wrapper of Gazhdor's library, which is linked in, for x86-64 Linux.
+//! come in pieces. What a call returns is proved: this crate is a wrapper of Gazhdor's library, which is linked in, for x86-64 and aarch64 Linux.
 //!
 //! ```
 //! # fn main() -> Result<(), Box<dyn std::error::Error>> {

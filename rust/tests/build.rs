@@ -3,7 +3,7 @@
 #[path = "../build.rs"]
 mod script;
 
-use script::{folder_of, see_library, see_target};
+use script::{folder_of, machine_of, see_library, sha256, whole};
 use std::path::{Path, PathBuf};
 use std::{env, fs, process};
 
@@ -25,22 +25,57 @@ fn what_is_packed_comes_first() {
 
 #[test]
 fn the_right_ones() {
-    see_target("linux", "x86_64");
-    let right = archive(b"before\x000.2.0\0after", "right");
-    see_library(&right, "0.2.0");
+    assert_eq!(machine_of("linux", "x86_64"), "x86_64-linux");
+    assert_eq!(machine_of("linux", "aarch64"), "aarch64-linux");
+    let right = archive(b"before\x000.3.0\0after", "right");
+    see_library(&right, "0.3.0");
     fs::remove_file(right).unwrap();
 }
 
 #[test]
-#[should_panic(expected = "is for x86_64 Linux, and the target is aarch64 linux")]
+#[should_panic(expected = "are for x86_64 Linux and for aarch64 Linux, and the target is riscv64 linux")]
 fn another_processor() {
-    see_target("linux", "aarch64");
+    machine_of("linux", "riscv64");
 }
 
 #[test]
-#[should_panic(expected = "is for x86_64 Linux, and the target is x86_64 macos")]
+#[should_panic(expected = "are for x86_64 Linux and for aarch64 Linux, and the target is x86_64 macos")]
 fn another_system() {
-    see_target("macos", "x86_64");
+    machine_of("macos", "x86_64");
+}
+
+/// The standard's own examples, and a million letters.
+#[test]
+fn known_sums() {
+    let million = "a".repeat(1_000_000);
+    for (text, sum) in [
+        ("", "e3b0c44298fc1c149afbf4c8996fb92427ae41e4649b934ca495991b7852b855"),
+        ("abc", "ba7816bf8f01cfea414140de5dae2223b00361a396177a9cb410ff61f20015ad"),
+        (
+            "abcdbcdecdefdefgefghfghighijhijkijkljklmklmnlmnomnopnopq",
+            "248d6a61d20638b8e5c026930c3e6039a33ce45964ff2167f6ecedd419db06c1",
+        ),
+        (&million, "cdc76e5c9914fb9281a1c7e284d73e67f1809a48a497200e046d39ccc7112cd0"),
+    ] {
+        assert_eq!(sha256::hexadecimal(text.as_bytes()), sum);
+    }
+}
+
+/// A library that is what SHA256SUMS says, and one that isn't.
+#[test]
+fn damaged() {
+    let folders = env::temp_dir().join(format!("gazhdor-{}-folders", process::id()));
+    let folder = folders.join("x86_64-linux");
+    fs::create_dir_all(&folder).unwrap();
+    let sum = "ba7816bf8f01cfea414140de5dae2223b00361a396177a9cb410ff61f20015ad";
+    fs::write(folders.join("SHA256SUMS"), format!("{sum}  release/x86_64-linux/libgazhdor.a\n")).unwrap();
+    fs::write(folder.join("libgazhdor.a"), "abc").unwrap();
+    assert_eq!(whole(&folders, "x86_64-linux"), folder);
+    fs::write(folder.join("libgazhdor.a"), "abd").unwrap();
+    let seen = std::panic::catch_unwind(|| whole(&folders, "x86_64-linux"));
+    fs::remove_dir_all(&folders).unwrap();
+    let said = seen.unwrap_err().downcast::<String>().unwrap();
+    assert!(said.contains("x86_64-linux/libgazhdor.a is damaged: it is not what"), "{said}");
 }
 
 #[test]
@@ -48,14 +83,14 @@ fn another_system() {
     expected = "none/libgazhdor.a can't be read: No such file or directory (os error 2); GAZHDOR_LIB_DIR names"
 )]
 fn no_library() {
-    see_library(Path::new("none/libgazhdor.a"), "0.2.0");
+    see_library(Path::new("none/libgazhdor.a"), "0.3.0");
 }
 
 #[test]
 fn another_version() {
-    let other = archive(b"before\x000.2.01\0after", "other");
-    let seen = std::panic::catch_unwind(|| see_library(&other, "0.2.0"));
+    let other = archive(b"before\x000.3.01\0after", "other");
+    let seen = std::panic::catch_unwind(|| see_library(&other, "0.3.0"));
     fs::remove_file(&other).unwrap();
     let said = seen.unwrap_err().downcast::<String>().unwrap();
-    assert_eq!(*said, format!("{} isn't the library of gazhdor 0.2.0", other.display()));
+    assert_eq!(*said, format!("{} isn't the library of gazhdor 0.3.0", other.display()));
 }
