@@ -14,6 +14,7 @@ NAME = "libgazhdor.so"
 HERE = os.path.dirname(os.path.abspath(__file__))
 # The module stands in the folder python/ of a tree, unless it was installed; the tree has the library and the version for it.
 TREE = os.path.dirname(os.path.dirname(HERE))
+IN_TREE = os.path.basename(os.path.dirname(HERE)) == "python" and os.path.exists(os.path.join(TREE, "release", "SOURCES"))
 
 
 class _Text(ctypes.Structure):
@@ -36,9 +37,10 @@ def packed(name: str) -> Optional[bytes]:
 
 def _see_machine() -> None:
     system, machine = platform.system(), platform.machine()
-    if (system, machine) != ("Linux", "x86_64") or sys.maxsize < 2**32:
+    if system != "Linux" or machine not in ("x86_64", "aarch64") or sys.maxsize < 2**32:
         bits = 8 * ctypes.sizeof(ctypes.c_void_p)
-        raise WrongMachine(f"the library of gazhdor is for 64-bit Python on x86_64 Linux, and this is {bits}-bit Python on {machine} {system}")
+        what = "the libraries of gazhdor are for 64-bit Python on x86_64 Linux and on aarch64 Linux"
+        raise WrongMachine(f"{what}, and this is {bits}-bit Python on {machine} {system}")
 
 
 def _opened(path: str) -> ctypes.CDLL:
@@ -67,13 +69,15 @@ def _find() -> Tuple[str, ctypes.CDLL]:
             file.write(inside)
             file.flush()
             return beside, _opened(file.name)
-    released = os.path.join(TREE, "release", NAME)
-    if os.path.exists(released):
+    released = os.path.join(TREE, "release", f"{platform.machine()}-linux", NAME)
+    if IN_TREE and os.path.exists(released):
         return released, _opened(released)
+    # Before version 1.0 another second number may mean other calls, so the system's library has it in its name.
+    installed = ".".join([NAME, *VERSION.split(".")[:2]])
     try:
-        return NAME, ctypes.CDLL(f"{NAME}.0")
+        return NAME, ctypes.CDLL(installed)
     except OSError:
-        raise LibraryMissing(f"{beside} isn't there, and the system has no {NAME}.0: install the wheel, or set GAZHDOR_LIBRARY", beside) from None
+        raise LibraryMissing(f"{beside} isn't there, and the system has no {installed}: install the wheel, or set GAZHDOR_LIBRARY", beside) from None
 
 
 def _load(version: str) -> ctypes.CDLL:
@@ -101,13 +105,13 @@ def _load(version: str) -> ctypes.CDLL:
 
 def _version() -> str:
     told = packed("VERSION")
-    if told is None:
+    if told is None and IN_TREE:
         try:
             with open(os.path.join(TREE, "VERSION"), "rb") as file:
                 told = file.read()
         except OSError:
-            told = b"unknown"
-    return told.decode().strip()
+            pass
+    return (told or b"unknown").decode().strip()
 
 
 VERSION = _version()
