@@ -1,16 +1,30 @@
 #!/usr/bin/env bash
 # Draws a ride's altitude, speed and heart rate over time: picture.sh RIDE PICTURE.png
-# It draws what the ride has; of a file that is refused or truncated, what comes before. It needs sqlite3 and gnuplot, and the program
-# as `fit`, or where FIT says, or at the top of this repository.
+# It draws what the ride has; of a file that is refused or truncated, what comes before.
+# It needs sqlite3; gnuplot, with its terminal pngcairo and a font; and the program: where FIT says, at the top of this repository, or as fit.
 set -euo pipefail
 if [ $# != 2 ]; then
-    sed -n '2s/^# //p' "$0" >&2
+    sed -n '2,4s/^# //p' "$0" >&2
     exit 2
 fi
+needed=()
 for tool in sqlite3 gnuplot; do
-    command -v "$tool" >/dev/null || { echo "picture.sh: there is no $tool, which it needs" >&2 && exit 1; }
+    command -v "$tool" >/dev/null || needed+=("$tool")
 done
-fit=${FIT:-$(command -v fit || echo "$(dirname "$(readlink -f "$0")")/../fit")}
+if [ ${#needed[@]} != 0 ]; then
+    echo "picture.sh: there is no ${needed[*]}, which it needs; Debian's packages sqlite3 and gnuplot-nox have them" >&2
+    exit 1
+fi
+if ! gnuplot -e 'set terminal pngcairo' 2>/dev/null; then
+    echo 'picture.sh: gnuplot here has no terminal pngcairo, which it needs' >&2
+    exit 1
+fi
+fit=${FIT:-$(dirname "$(readlink -f "$0")")/../fit}
+[ -n "${FIT-}" ] || [ -x "$fit" ] || fit=$(command -v fit || true)
+if ! command -v "${fit:-fit}" >/dev/null; then
+    echo "picture.sh: there is no program ${fit:-fit}; FIT says where it is" >&2
+    exit 1
+fi
 work=$(mktemp -d)
 trap 'rm -rf "$work"' EXIT
 status=0
