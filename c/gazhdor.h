@@ -24,7 +24,7 @@
 #include <stdint.h>
 
 /* The version of this header; gazhdor_version() has that of the library. */
-#define GAZHDOR_VERSION "0.2.0"
+#define GAZHDOR_VERSION "0.3.0"
 
 #ifdef __cplusplus
 extern "C" {
@@ -154,7 +154,7 @@ void gazhdor_free(gazhdor_text text);
 const char *gazhdor_status_name(uint32_t status);
 const char *gazhdor_reason_name(uint32_t reason);
 
-/* The version of the library, as "0.2.0". */
+/* The version of the library, as "0.3.0". */
 const char *gazhdor_version(void);
 
 #ifdef __cplusplus
