@@ -10,6 +10,7 @@
  *  - `text` points to a gazhdor_text that is GAZHDOR_NO_TEXT.
  *  - A gazhdor_text that a call has filled is given to gazhdor_free once, by whoever made the call.
  *  - malloc, realloc and free belong to one another, and no call is made in a signal handler.
+ *  - The thread has room: a call takes less than 48 KB of stack, so that 64 KiB suffice for a thread of its own.
  *  - What is said of a gazhdor_stream below.
  *
  *     gazhdor_text table = GAZHDOR_NO_TEXT;
@@ -25,6 +26,20 @@
 
 /* The version of this header; gazhdor_version() has that of the library. */
 #define GAZHDOR_VERSION "0.3.0"
+
+/* Casts and null pointers as each language writes them, so that C++ has nothing to warn of. */
+#ifdef __cplusplus
+#define GAZHDOR_CAST(type, value) static_cast<type>(value)
+#define GAZHDOR_BYTES_OF(text) reinterpret_cast<const uint8_t *>(text)
+#else
+#define GAZHDOR_CAST(type, value) ((type)(value))
+#define GAZHDOR_BYTES_OF(text) ((const uint8_t *)(text))
+#endif
+#if defined __cplusplus && __cplusplus >= 201103L
+#define GAZHDOR_NULL nullptr
+#else
+#define GAZHDOR_NULL NULL
+#endif
 
 #ifdef __cplusplus
 extern "C" {
@@ -74,7 +89,7 @@ typedef struct gazhdor_text {
 } gazhdor_text;
 
 /* What a gazhdor_text is before a call; there is nothing to free. */
-#define GAZHDOR_NO_TEXT { (const uint8_t *)"", 0 }
+#define GAZHDOR_NO_TEXT { GAZHDOR_BYTES_OF(""), 0 }
 
 /* Whether `length` bytes are a FIT file or several, one after another, and how many: GAZHDOR_GOOD for just these. */
 gazhdor_answer gazhdor_check(const uint8_t *bytes, size_t length);
@@ -129,7 +144,7 @@ typedef struct gazhdor_stream {
     void *at;
 } gazhdor_stream;
 
-#define GAZHDOR_CLOSED_STREAM { NULL }
+#define GAZHDOR_CLOSED_STREAM { GAZHDOR_NULL }
 
 /* Opens a stream, of an enum gazhdor_stream_kind; what it was before is closed. Where the answer isn't GAZHDOR_GOOD, it is closed. */
 gazhdor_answer gazhdor_open(gazhdor_stream *stream, uint32_t kind);

@@ -2,7 +2,7 @@
  *
  *     gazhdor_reader at = gazhdor_read(blocks);
  *     while (gazhdor_next(&at)) {
- *         if (at.message != 20)
+ *         if (at.message != GAZHDOR_MESSAGE_RECORD)
  *             continue;
  *         gazhdor_field heart = gazhdor_named(at.definition, "heart_rate");
  *         printf("%lu %g\n", (unsigned long)gazhdor_time(at.block), gazhdor_value(heart, at.block, 0));
@@ -37,6 +37,22 @@ enum gazhdor_amount_kind { GAZHDOR_SPEED = 0, GAZHDOR_DISTANCE = 1, GAZHDOR_CYCL
 #define GAZHDOR_NO_TIME 0xFFFFFFFFu
 #define GAZHDOR_NO_DEFINITION 0xFFFFFFFFFFFFFFFFu
 
+/* The global message numbers of the messages that have names, those of profile/fields.tsv. */
+enum gazhdor_message_number {
+    GAZHDOR_MESSAGE_FILE_ID = 0,
+    GAZHDOR_MESSAGE_SPORT = 12,
+    GAZHDOR_MESSAGE_SESSION = 18,
+    GAZHDOR_MESSAGE_LAP = 19,
+    GAZHDOR_MESSAGE_RECORD = 20,
+    GAZHDOR_MESSAGE_EVENT = 21,
+    GAZHDOR_MESSAGE_DEVICE_INFO = 23,
+    GAZHDOR_MESSAGE_ACTIVITY = 34,
+    GAZHDOR_MESSAGE_FILE_CREATOR = 49,
+    GAZHDOR_MESSAGE_HRV = 78,
+    GAZHDOR_MESSAGE_FIELD_DESCRIPTION = 206,
+    GAZHDOR_MESSAGE_DEVELOPER_DATA_ID = 207
+};
+
 /* Add this to a time for seconds since 1970-01-01T00:00:00 UTC. A time below GAZHDOR_SYSTEM_TIME has no date: it counts from when the
  * device was switched on. */
 #define GAZHDOR_EPOCH 631065600
@@ -51,11 +67,13 @@ typedef struct gazhdor_block {
     uint64_t number; /* of a definition and of a message: which definition of all, counted from 0 */
 } gazhdor_block;
 
-/* Goes through the blocks, and knows the definition of each message. */
+/* Goes through the blocks, and knows the definition of each message. One that has kept definitions isn't copied, since each copy would
+ * free them. */
 typedef struct gazhdor_reader {
     gazhdor_block block;      /* the one that it is at */
     gazhdor_block definition; /* of a message its definition, of a definition itself, else none */
-    uint32_t message;         /* at a message its global message number, as 20 for record; else GAZHDOR_NO_MESSAGE */
+    uint32_t message;         /* at a message its global message number, an enum gazhdor_message_number if it has a name; else
+                               * GAZHDOR_NO_MESSAGE */
     gazhdor_text left;        /* the blocks that are still to come */
     gazhdor_block known[16];  /* the last definition of each local message type */
     uint8_t *kept[16];        /* copies of those that lie in blocks of earlier pieces, by gazhdor_keep */
@@ -92,12 +110,12 @@ static inline uint64_t gazhdor_load(gazhdor_block block, uint64_t at, size_t wid
 /* The first of some blocks; none where there isn't a whole one. */
 static inline gazhdor_block gazhdor_first(gazhdor_text blocks)
 {
-    gazhdor_block none = { NULL, 0, 0, 0, 0, 0 }, block = { blocks.bytes, blocks.length, 0, 0, 0, 0 };
-    block.length = (size_t)gazhdor_load(block, 0, 4);
+    gazhdor_block none = { GAZHDOR_NULL, 0, 0, 0, 0, 0 }, block = { blocks.bytes, blocks.length, 0, 0, 0, 0 };
+    block.length = GAZHDOR_CAST(size_t, gazhdor_load(block, 0, 4));
     if (block.length > blocks.length || block.length < 24 || block.length % 8 != 0)
         return none;
     block.kind = block.bytes[4];
-    block.file = (uint32_t)gazhdor_load(block, 8, 4);
+    block.file = GAZHDOR_CAST(uint32_t, gazhdor_load(block, 8, 4));
     block.place = gazhdor_load(block, 16, 8);
     if (block.kind == GAZHDOR_DEFINITION || block.kind == GAZHDOR_MESSAGE) {
         block.number = gazhdor_load(block, 24, 8);
@@ -120,11 +138,11 @@ static inline gazhdor_reader gazhdor_read(gazhdor_text blocks)
 /* Goes to the next block: 1, or 0 where there is none. */
 static inline int gazhdor_next(gazhdor_reader *reader)
 {
-    gazhdor_block none = { NULL, 0, 0, 0, 0, 0 }, block = gazhdor_first(reader->left);
+    gazhdor_block none = { GAZHDOR_NULL, 0, 0, 0, 0, 0 }, block = gazhdor_first(reader->left);
     reader->block = block;
     reader->definition = none;
     reader->message = GAZHDOR_NO_MESSAGE;
-    if (block.bytes == NULL)
+    if (block.bytes == GAZHDOR_NULL)
         return 0;
     reader->left.bytes += block.length;
     reader->left.length -= block.length;
@@ -132,8 +150,8 @@ static inline int gazhdor_next(gazhdor_reader *reader)
         reader->definition = reader->known[block.bytes[5] & 15] = block;
     if (block.kind == GAZHDOR_MESSAGE && reader->known[block.bytes[6] & 15].number == block.number)
         reader->definition = reader->known[block.bytes[6] & 15];
-    if (block.kind == GAZHDOR_MESSAGE && reader->definition.bytes != NULL)
-        reader->message = (uint32_t)gazhdor_load(reader->definition, 32, 2);
+    if (block.kind == GAZHDOR_MESSAGE && reader->definition.bytes != GAZHDOR_NULL)
+        reader->message = GAZHDOR_CAST(uint32_t, gazhdor_load(reader->definition, 32, 2));
     return 1;
 }
 
@@ -155,27 +173,28 @@ static inline void gazhdor_read_on(gazhdor_reader *reader, gazhdor_text blocks)
     reader->left = blocks;
 }
 
-/* Copies the definitions that later messages may be of, in memory of malloc, so that the blocks may be freed: 1. Where memory is refused
- * for one it is 0, and its messages are passed over. */
+/* Passes over the blocks that are left, and copies the definitions that later messages may be of, in memory of malloc, so that the blocks
+ * may be freed: 1. Where memory is refused for one it is 0, and its messages are passed over. From here on the reader isn't copied. */
 static inline int gazhdor_keep(gazhdor_reader *reader)
 {
     int all = 1;
+    while (gazhdor_next(reader))
+        ;
     for (size_t i = 0; i < 16; i++) {
         gazhdor_block *known = &reader->known[i];
         if (known->bytes == reader->kept[i])
             continue;
-        uint8_t *copy = (uint8_t *)malloc(known->length);
-        all &= copy != NULL;
-        if (copy != NULL)
+        uint8_t *copy = GAZHDOR_CAST(uint8_t *, malloc(known->length));
+        all &= copy != GAZHDOR_NULL;
+        if (copy != GAZHDOR_NULL)
             memcpy(copy, known->bytes, known->length);
         else
             memset(known, 0, sizeof *known);
         free(reader->kept[i]);
         known->bytes = reader->kept[i] = copy;
     }
-    gazhdor_block none = { NULL, 0, 0, 0, 0, 0 };
-    reader->block = reader->definition = none;
-    reader->message = GAZHDOR_NO_MESSAGE;
+    gazhdor_text none = GAZHDOR_NO_TEXT;
+    reader->left = none;
     return all;
 }
 
@@ -191,7 +210,8 @@ static inline void gazhdor_forget(gazhdor_reader *reader)
 /* A text in bytes of which the last is a zero; "" where it isn't. */
 static inline const char *gazhdor_name_at(gazhdor_block block, size_t at)
 {
-    return at < block.length && block.bytes[block.length - 1] == 0 ? (const char *)(block.bytes + at) : "";
+    const void *text = at < block.length && block.bytes[block.length - 1] == 0 ? block.bytes + at : GAZHDOR_BYTES_OF("");
+    return GAZHDOR_CAST(const char *, text);
 }
 
 /* The name of the messages of a definition, as "record"; "" where the profile has none. */
@@ -204,18 +224,19 @@ static inline const char *gazhdor_message_name(gazhdor_block definition)
 static inline gazhdor_field gazhdor_field_at(gazhdor_block definition, size_t at)
 {
     static const gazhdor_field none = { 0, "", "", GAZHDOR_NO_DEFINITION, 0, 0, 0, 0, 0, 0, 0, 0, 0, 0, 0, 0, 0 };
-    size_t length = (size_t)gazhdor_load(definition, at, 2);
+    size_t length = GAZHDOR_CAST(size_t, gazhdor_load(definition, at, 2));
     if (definition.kind != GAZHDOR_DEFINITION || length < 48 || length > definition.length - at)
         return none;
     const uint8_t *own = definition.bytes + at;
     gazhdor_block entry = { own, length, 0, 0, 0, 0 };
-    gazhdor_field field = { 1, gazhdor_name_at(entry, 32), gazhdor_name_at(entry, (size_t)gazhdor_load(entry, 2, 2)),
-        definition.number, gazhdor_load(entry, 24, 8), (uint32_t)gazhdor_load(entry, 12, 4), (uint32_t)gazhdor_load(entry, 16, 4),
-        (uint32_t)gazhdor_load(entry, 20, 4), own[4], own[5], own[6], own[7], own[8], own[9], own[10], own[11], at + length };
+    gazhdor_field field = { 1, gazhdor_name_at(entry, 32), gazhdor_name_at(entry, GAZHDOR_CAST(size_t, gazhdor_load(entry, 2, 2))),
+        definition.number, gazhdor_load(entry, 24, 8), GAZHDOR_CAST(uint32_t, gazhdor_load(entry, 12, 4)),
+        GAZHDOR_CAST(uint32_t, gazhdor_load(entry, 16, 4)), GAZHDOR_CAST(uint32_t, gazhdor_load(entry, 20, 4)), own[4], own[5], own[6], own[7], own[8], own[9], own[10], own[11], at + length };
     return field;
 }
 
-/* The first field of a definition, and the one after a field: the fields in their order, and then the developer fields. */
+/* The first field of a definition, and the one after a field of it: the fields in their order, and then the developer fields. There is
+ * none after the last, after a field that isn't there, and after one of another definition. */
 static inline gazhdor_field gazhdor_first_field(gazhdor_block definition)
 {
     return gazhdor_field_at(definition, 48 + strlen(gazhdor_message_name(definition)) / 8 * 8);
@@ -223,14 +244,14 @@ static inline gazhdor_field gazhdor_first_field(gazhdor_block definition)
 
 static inline gazhdor_field gazhdor_next_field(gazhdor_block definition, gazhdor_field field)
 {
-    return gazhdor_field_at(definition, field.end);
+    return gazhdor_field_at(definition, field.there && field.definition == definition.number ? field.end : definition.length);
 }
 
-/* The first field of a definition that has this name; developer fields have names too. */
+/* The first field of a definition that has this name; developer fields have names too. None where the name is NULL or "". */
 static inline gazhdor_field gazhdor_named(gazhdor_block definition, const char *name)
 {
     gazhdor_field field = gazhdor_first_field(definition);
-    while (field.there && (field.name[0] == 0 || strcmp(field.name, name) != 0))
+    while (field.there && (name == GAZHDOR_NULL || field.name[0] == 0 || strcmp(field.name, name) != 0))
         field = gazhdor_next_field(definition, field);
     return field;
 }
@@ -256,8 +277,8 @@ static inline gazhdor_field gazhdor_developer(gazhdor_block definition, uint32_t
 /* All items of a field in a message, as they follow one another in its block; NULL where the message isn't of the field's definition. */
 static inline gazhdor_text gazhdor_items(gazhdor_field field, gazhdor_block message)
 {
-    gazhdor_text items = { NULL, 0 };
-    size_t length = (size_t)field.count * field.width;
+    gazhdor_text items = { GAZHDOR_NULL, 0 };
+    size_t length = GAZHDOR_CAST(size_t, field.count) * field.width;
     if (!field.there || message.kind != GAZHDOR_MESSAGE || message.number != field.definition
         || field.at > message.length || length > message.length - field.at)
         return items;
@@ -267,11 +288,13 @@ static inline gazhdor_text gazhdor_items(gazhdor_field field, gazhdor_block mess
 }
 
 /* Item k of a field in a message, counted from 0, as it is: of a signed field the number as an int64_t, of a float its bits. Returns
- * whether it stands for a value; where there is no such item, it is 0. */
+ * whether it stands for a value; where there is no such item, it is 0. `raw` may be NULL, where only that is asked. */
 static inline int gazhdor_raw(gazhdor_field field, gazhdor_block message, size_t k, uint64_t *raw)
 {
     gazhdor_text items = gazhdor_items(field, message);
     gazhdor_block block = { items.bytes, items.length, 0, 0, 0, 0 };
+    uint64_t unwanted;
+    raw = raw == GAZHDOR_NULL ? &unwanted : raw;
     *raw = 0;
     if (k >= field.count || items.length == 0)
         return 0;
@@ -282,7 +305,7 @@ static inline int gazhdor_raw(gazhdor_field field, gazhdor_block message, size_t
     case 8: *raw = gazhdor_load(block, 8 * k, 8); break;
     default: return 0;
     }
-    uint64_t sign = field.kind == GAZHDOR_SIGNED ? (uint64_t)1 << (8 * field.width - 1) : 0;
+    uint64_t sign = field.kind == GAZHDOR_SIGNED ? GAZHDOR_CAST(uint64_t, 1) << (8 * field.width - 1) : 0;
     *raw = (*raw ^ sign) - sign;
     return field.kind == GAZHDOR_BYTES || *raw != field.invalid;
 }
@@ -290,12 +313,12 @@ static inline int gazhdor_raw(gazhdor_field field, gazhdor_block message, size_t
 /* The number of a float by its bits, of 4 or 8 bytes. */
 static inline double gazhdor_float(uint64_t bits, uint32_t width)
 {
-    uint32_t few = (uint32_t)bits;
+    uint32_t few = GAZHDOR_CAST(uint32_t, bits);
     float number;
     double wide;
     memcpy(&number, &few, 4);
     memcpy(&wide, &bits, 8);
-    return width == 8 ? wide : width == 4 ? (double)number : NAN;
+    return width == 8 ? wide : width == 4 ? GAZHDOR_CAST(double, number) : NAN;
 }
 
 /* Item k of a field in a message, counted from 0, as a number in the field's unit: what a program mostly wants. NAN where the item says
@@ -305,18 +328,18 @@ static inline double gazhdor_value(gazhdor_field field, gazhdor_block message, s
     uint64_t raw;
     if (!gazhdor_raw(field, message, k, &raw) || field.kind > GAZHDOR_FLOAT || field.scale == 0)
         return NAN;
-    double number = field.kind == GAZHDOR_UNSIGNED ? (double)raw
-        : field.kind == GAZHDOR_SIGNED ? (double)(int64_t)raw : gazhdor_float(raw, field.width);
-    return (number - (double)field.offset * field.scale) / field.scale;
+    double number = field.kind == GAZHDOR_UNSIGNED ? GAZHDOR_CAST(double, raw)
+        : field.kind == GAZHDOR_SIGNED ? GAZHDOR_CAST(double, GAZHDOR_CAST(int64_t, raw)) : gazhdor_float(raw, field.width);
+    return (number - GAZHDOR_CAST(double, field.offset) * field.scale) / field.scale;
 }
 
 /* The text of a string field in a message, up to its first zero: UTF-8, if the file keeps to the protocol. NULL of other fields. */
 static inline gazhdor_text gazhdor_string(gazhdor_field field, gazhdor_block message)
 {
-    gazhdor_text none = { NULL, 0 }, text = gazhdor_items(field, message);
-    const void *end = text.length == 0 ? NULL : memchr(text.bytes, 0, text.length);
-    if (end != NULL)
-        text.length = (size_t)((const uint8_t *)end - text.bytes);
+    gazhdor_text none = { GAZHDOR_NULL, 0 }, text = gazhdor_items(field, message);
+    const void *end = text.length == 0 ? GAZHDOR_NULL : memchr(text.bytes, 0, text.length);
+    if (end != GAZHDOR_NULL)
+        text.length = GAZHDOR_CAST(size_t, GAZHDOR_CAST(const uint8_t *, end) - text.bytes);
     return field.kind == GAZHDOR_STRING ? text : none;
 }
 
@@ -324,13 +347,13 @@ static inline gazhdor_text gazhdor_string(gazhdor_field field, gazhdor_block mes
  * GAZHDOR_NO_TIME where neither tells it. */
 static inline uint32_t gazhdor_time(gazhdor_block message)
 {
-    return message.kind == GAZHDOR_MESSAGE ? (uint32_t)gazhdor_load(message, 12, 4) : GAZHDOR_NO_TIME;
+    return message.kind == GAZHDOR_MESSAGE ? GAZHDOR_CAST(uint32_t, gazhdor_load(message, 12, 4)) : GAZHDOR_NO_TIME;
 }
 
 /* The time of a compressed header alone. */
 static inline uint32_t gazhdor_header_time(gazhdor_block message)
 {
-    return message.kind == GAZHDOR_MESSAGE ? (uint32_t)gazhdor_load(message, 32, 4) : GAZHDOR_NO_TIME;
+    return message.kind == GAZHDOR_MESSAGE ? GAZHDOR_CAST(uint32_t, gazhdor_load(message, 32, 4)) : GAZHDOR_NO_TIME;
 }
 
 /* What a record message tells by a compressed or a short field: GAZHDOR_SPEED, in m/s; or added up over its file, GAZHDOR_DISTANCE, in
@@ -340,7 +363,7 @@ static inline double gazhdor_amount(gazhdor_block message, uint32_t amount)
     static const double parts[4] = { 100, 16, 1, 1 };
     if (message.kind != GAZHDOR_MESSAGE || message.length < 72 || amount > 3 || (message.bytes[5] & (4u << amount)) == 0)
         return NAN;
-    return (double)gazhdor_load(message, 40 + 8 * amount, 8) / parts[amount];
+    return GAZHDOR_CAST(double, gazhdor_load(message, 40 + 8 * amount, 8)) / parts[amount];
 }
 
 #ifdef __cplusplus

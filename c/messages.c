@@ -6,8 +6,6 @@
 #include <stdio.h>
 #include <stdlib.h>
 
-enum { SESSION = 18, RECORD = 20 };
-
 /* The bytes of a file; NULL where it can't be read. */
 static uint8_t *load(const char *path, size_t *length)
 {
@@ -50,12 +48,12 @@ static void print_messages(gazhdor_text blocks, const char *name)
 {
     gazhdor_reader at = gazhdor_read(blocks);
     while (gazhdor_next(&at)) {
-        if (at.message == RECORD) {
+        if (at.message == GAZHDOR_MESSAGE_RECORD) {
             printf("%lu", (unsigned long)gazhdor_time(at.block));
             print_value(gazhdor_named(at.definition, "heart_rate"), at.block);
             print_value(gazhdor_named(at.definition, name), at.block);
             printf("\n");
-        } else if (at.message == SESSION) {
+        } else if (at.message == GAZHDOR_MESSAGE_SESSION) {
             printf("session");
             print_value(gazhdor_named(at.definition, "total_distance"), at.block);
             printf("\n");

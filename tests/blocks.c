@@ -110,6 +110,17 @@ static int is_text(gazhdor_text text, const char *wanted)
     return text.bytes != NULL && text.length == strlen(wanted) && memcmp(text.bytes, wanted, text.length) == 0;
 }
 
+/* After the last field comes none, nor after that, nor after one of another definition; and no name and no place for an item are no names
+ * and no places. */
+static void no_more_fields(gazhdor_block definition, gazhdor_field last, gazhdor_field other)
+{
+    gazhdor_field none = gazhdor_next_field(definition, last);
+    for (int i = 0; i < 3; i++, none = gazhdor_next_field(definition, none))
+        WANT(!none.there && none.name[0] == 0 && none.unit[0] == 0 && none.definition == GAZHDOR_NO_DEFINITION);
+    WANT(other.there && other.definition != definition.number && !gazhdor_next_field(definition, other).there);
+    WANT(gazhdor_named(definition, last.name).there && !gazhdor_named(definition, NULL).there);
+}
+
 /* The messages of the second file. */
 static void numbers(gazhdor_reader *at)
 {
@@ -123,6 +134,7 @@ static void numbers(gazhdor_reader *at)
     WANT(heart.there && heart.number == 3 && heart.count == 1 && strcmp(heart.unit, "bpm") == 0);
     WANT(gazhdor_value(heart, at->block, 0) == 120 && isnan(gazhdor_value(heart, at->block, 1)));
     WANT(gazhdor_raw(heart, at->block, 0, &raw) && raw == 120 && !gazhdor_raw(heart, at->block, 1, &raw) && raw == 0);
+    WANT(gazhdor_raw(heart, at->block, 0, NULL) && !gazhdor_raw(heart, at->block, 1, NULL));
     WANT(gazhdor_string(heart, at->block).bytes == NULL && gazhdor_items(heart, at->block).length == 1);
     WANT(gazhdor_value(gazhdor_numbered(at->definition, 253), at->block, 0) == 1000000031);
     WANT(!gazhdor_named(at->definition, "power").there && isnan(gazhdor_value(gazhdor_named(at->definition, "power"), at->block, 0)));
@@ -133,7 +145,8 @@ static void numbers(gazhdor_reader *at)
     gazhdor_field altitude = gazhdor_numbered(at->definition, 2), both = gazhdor_next_field(at->definition, altitude);
     WANT(gazhdor_value(altitude, at->block, 0) == 0 && gazhdor_raw(altitude, at->block, 0, &raw) && raw == 2500);
     WANT(altitude.scale == 5 && altitude.offset == 500 && altitude.decimals == 1 && altitude.invalid == 0xFFFF);
-    WANT(both.kind == GAZHDOR_BYTES && isnan(gazhdor_value(both, at->block, 0)) && !gazhdor_next_field(at->definition, both).there);
+    WANT(both.kind == GAZHDOR_BYTES && isnan(gazhdor_value(both, at->block, 0)));
+    no_more_fields(at->definition, both, heart);
     both.invalid = 0x10; /* Of bytes no single one says that there is no value. */
     WANT(gazhdor_raw(both, at->block, 2, &raw) && raw == 0x10 && gazhdor_items(both, at->block).length == 3);
     WANT(gazhdor_time(at->block) == 1000000034 && gazhdor_header_time(at->block) == 1000000034);

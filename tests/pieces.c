@@ -318,6 +318,35 @@ static void kept(const uint8_t *bytes, size_t length, size_t size)
     gazhdor_free(all);
 }
 
+/* A program that leaves a piece at its first message, and so its loop with blocks still to come, has the definitions of all of them: the
+ * first message of each piece is what a reader of all blocks finds there. The blocks of a piece are freed before the next ones. */
+static void left_early(const uint8_t *bytes, size_t length, size_t size)
+{
+    gazhdor_text all = GAZHDOR_NO_TEXT, none = GAZHDOR_NO_TEXT;
+    gazhdor_messages(bytes, length, &all);
+    gazhdor_reader wanted = gazhdor_read(all), at = gazhdor_read(none);
+    gazhdor_stream stream = GAZHDOR_CLOSED_STREAM;
+    gazhdor_open(&stream, GAZHDOR_STREAM_MESSAGES);
+    for (size_t begin = 0; begin < length; begin += size) {
+        gazhdor_text text = GAZHDOR_NO_TEXT;
+        gazhdor_feed(&stream, bytes + begin, length - begin < size ? length - begin : size, &text);
+        gazhdor_read_on(&at, text);
+        while (gazhdor_next(&at) && at.block.kind != GAZHDOR_MESSAGE)
+            ;
+        if (at.block.kind == GAZHDOR_MESSAGE) {
+            while (gazhdor_next(&wanted) && wanted.block.place != at.block.place)
+                ;
+            WANT(at.message != GAZHDOR_NO_MESSAGE && at.message == wanted.message && told(&at) == told(&wanted));
+        }
+        WANT(gazhdor_keep(&at) && at.left.length == 0 && at.block.bytes == NULL && at.message == GAZHDOR_NO_MESSAGE);
+        gazhdor_free(text);
+        WANT(!gazhdor_next(&at));
+    }
+    gazhdor_close(&stream);
+    gazhdor_forget(&at);
+    gazhdor_free(all);
+}
+
 /* Where memory is refused for a copy, its messages are passed over, and nothing is lost. */
 static void forgotten(const uint8_t *bytes, size_t length)
 {
@@ -466,7 +495,7 @@ int main(int argc, char **argv)
             passed_on(kind, 4);
         }
         for (size_t size = 1; size < 100; size += 7)
-            kept(given, given_length, size);
+            kept(given, given_length, size), left_early(given, given_length, 7 * size);
         if (strstr(argv[i], "ride") != NULL)
             forgotten(given, given_length);
     }
