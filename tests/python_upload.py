@@ -1,10 +1,15 @@
 """What examples/python/upload.py must answer to uploads that come in small pieces over a connection, and what its page draws where
-Chromium is installed."""
+Chromium is installed; and what examples/python/load_rides.py does with names that aren't UTF-8."""
+import contextlib
 import html
+import io
 import json
+import os
 import re
 import shutil
 import socket
+import sqlite3
+import struct
 import subprocess
 import sys
 import tempfile
@@ -22,6 +27,59 @@ RIDE = "examples/ride.fit"
 with open(RIDE, "rb") as file:
     BYTES = file.read()
 BROWSERS = ("chromium", "chromium-browser", "google-chrome")
+
+
+def asked(port, head, pieces=(), ends=False, wait=60):
+    """Sends a request, and the pieces as long as no answer comes; returns the status, what JSON says, and how many bytes were sent."""
+    sent = 0
+    with socket.create_connection(("127.0.0.1", port), timeout=wait) as connection:
+        connection.setsockopt(socket.IPPROTO_TCP, socket.TCP_NODELAY, 1)
+        connection.sendall(head.encode() + b"\r\n\r\n")
+        for piece in pieces:
+            connection.setblocking(False)
+            try:
+                if connection.recv(1, socket.MSG_PEEK):
+                    break
+            except BlockingIOError:
+                pass
+            connection.settimeout(wait)
+            connection.sendall(piece)
+            sent += len(piece)
+        connection.settimeout(wait)
+        if ends:
+            connection.shutdown(socket.SHUT_WR)
+        answer = b""
+        while True:
+            more = connection.recv(65536)
+            if not more:
+                break
+            answer += more
+    front, _, body = answer.partition(b"\r\n\r\n")
+    return int(front.split()[1]), json.loads(body.decode()), sent
+
+
+def with_times(session, start, record):
+    """A file of a session whose timestamp and start_time, and of a record whose timestamp, are fields of these sizes, base types and
+    cells."""
+    rows = ["row,a,b,c,d,e,f", "file,14,32,2065,sum,,", "def,0,0,big,18,3,", "fdef,253,%d,%d,,," % session[:2], "fdef,2,%d,%d,,," % start[:2]]
+    rows += ["fdef,5,1,0,,,", "def,1,0,big,20,2,", "fdef,253,%d,%d,,," % record[:2], "fdef,3,1,2,,,", "data,0,,session,,,"]
+    rows += [f"field,timestamp,{session[2]},s,,,", f"field,start_time,{start[2]},s,,,", "field,sport,2,,,,", "data,1,,record,,,"]
+    return gazhdor.from_csv("\n".join([*rows, f"field,timestamp,{record[2]},s,,,", "field,heart_rate,60,bpm,,,", "end,,,,,,\n"]))
+
+
+@contextlib.contextmanager
+def served(handler, at_once=8):
+    """A server in this process. Yields it and its port."""
+    with upload.Server(("127.0.0.1", 0), 1 << 26, 60, at_once, handler) as server:
+        thread = threading.Thread(target=server.serve_forever, daemon=True)
+        thread.start()
+        yield server, server.server_address[1]
+        server.shutdown()
+
+
+class Quiet(upload.Handler):
+    def log_message(self, *words):
+        pass
 
 
 class Running:
@@ -46,38 +104,9 @@ class Running:
     def connected(self):
         return socket.create_connection(("127.0.0.1", self.port), timeout=60)
 
-    def asked(self, head, pieces=(), ends=False):
-        """Sends a request, and the pieces as long as no answer comes; returns the status, what JSON says, and how many bytes were sent."""
-        sent = 0
-        with self.connected() as connection:
-            connection.setsockopt(socket.IPPROTO_TCP, socket.TCP_NODELAY, 1)
-            connection.sendall(head.encode() + b"\r\n\r\n")
-            for piece in pieces:
-                connection.setblocking(False)
-                try:
-                    if connection.recv(1, socket.MSG_PEEK):
-                        break
-                except BlockingIOError:
-                    pass
-                connection.setblocking(True)
-                connection.settimeout(60)
-                connection.sendall(piece)
-                sent += len(piece)
-            connection.settimeout(60)
-            if ends:
-                connection.shutdown(socket.SHUT_WR)
-            answer = b""
-            while True:
-                more = connection.recv(65536)
-                if not more:
-                    break
-                answer += more
-        front, _, body = answer.partition(b"\r\n\r\n")
-        return int(front.split()[1]), json.loads(body.decode()), sent
-
     def put(self, data, size=100, length=None, **how):
         head = f"POST /rides HTTP/1.1\r\nHost: test\r\nContent-Length: {len(data) if length is None else length}"
-        return self.asked(head, [data[at : at + size] for at in range(0, len(data), size)], **how)
+        return asked(self.port, head, [data[at : at + size] for at in range(0, len(data), size)], **how)
 
 
 class Uploads(unittest.TestCase):
@@ -108,6 +137,41 @@ class Uploads(unittest.TestCase):
         self.assertTrue(1000 <= len(told["drawn"]["time"]) <= 2000)
         self.assertEqual(len(set(map(len, told["drawn"].values()))), 1)
 
+    def test_odd_times(self):
+        """A time may be any number in a file: what is no whole number of seconds in 32 bits is told of nothing, and all else is told."""
+        known = (4, 134, "1147937400")
+        for size, code, cell in (
+            (8, 137, "0x" + struct.pack(">d", 1e300).hex().upper()), (8, 137, "0x" + struct.pack(">d", float("inf")).hex().upper()),
+            (4, 136, "0x" + struct.pack(">f", 1147937400).hex().upper()), (8, 143, str(2**63)), (8, 143, str(10**12)), (8, 142, str(-(2**63))),
+            (4, 133, "-1"), (8, 134, "1|2"), (3, 7, "now"), (4, 13, "0x01020304"), (8, 143, str(2**32 - 1)),
+        ):
+            odd = (size, code, cell)
+            for times in ((odd, known, known), (known, odd, known), (odd, odd, odd)):
+                status, told, _ = self.server.put(with_times(*times))
+                self.assertEqual((status, told["counts"], told["sessions"][0]["sport"]), (200, {"session": 1, "lap": 0, "record": 1}, 2))
+                names = [name for name, time in zip(("timestamp", "start_time"), times) if time == known]
+                self.assertEqual({name: told["sessions"][0].get(name) for name in ("timestamp", "start_time")},
+                                 {name: "2026-05-17 07:30:00+00:00" if name in names else None for name in ("timestamp", "start_time")})
+        status, told, _ = self.server.put(with_times((4, 134, "0"), (8, 143, str(2**32 - 2)), known))
+        self.assertEqual((status, told["sessions"][0]["timestamp"], told["sessions"][0]["start_time"]), (200, "system+0", "2126-02-06 06:28:14+00:00"))
+
+    def test_ranges(self):
+        """The ranges are those of all records with a time, of which few are drawn."""
+        data = make_rides.ride(5, 100)
+        lists = gazhdor.lists(data, "record", [".seconds", "altitude", "speed", "heart_rate"])
+        status, told, _ = self.server.put(data, 20000)
+        self.assertEqual((status, told["counts"]["record"]), (200, 6000))
+        self.assertTrue(1000 <= len(told["drawn"]["time"]) <= 2000)
+        for name in ("altitude", "speed", "heart_rate"):
+            values = [value for value in lists[name] if value is not None]
+            self.assertEqual(told["ranges"][name], [min(values), max(values)])
+        self.assertEqual(told["ranges"]["time"], [lists[".seconds"][0] + 631065600, lists[".seconds"][-1] + 631065600])
+        drawn = [told["drawn"][name] for name in ("altitude", "speed", "heart_rate")]
+        self.assertNotEqual([told["ranges"][name] for name in ("altitude", "speed", "heart_rate")],
+                            [[min(filter(None, values)), max(filter(None, values))] for values in drawn])
+        status, told, _ = self.server.put(with_times(*3 * [(8, 143, str(2**63))]))
+        self.assertEqual((status, told["drawn"]["heart_rate"], told["ranges"]), (200, [60], dict.fromkeys(upload.DRAWN)))
+
     def test_cut(self):
         for end in (0, 1, 14, 2000, len(BYTES) - 1):
             status, told, _ = self.server.put(BYTES[:end])
@@ -135,8 +199,10 @@ class Uploads(unittest.TestCase):
             (post, 411), (post + "\r\nTransfer-Encoding: chunked", 411), (post + "\r\nContent-Length: -1", 400), (post + "\r\nContent-Length: 1e3", 400),
             (post + "\r\nContent-Length: 5\r\nContent-Length: 5", 400), (post + "\r\nContent-Length: 4000001", 413), (post + f"\r\nContent-Length: {'9' * 500}", 413),
             ("POST /other HTTP/1.1\r\nHost: test\r\nContent-Length: 5", 404), ("GET /other HTTP/1.1\r\nHost: test", 404),
+            ("PUT /rides HTTP/1.1\r\nHost: test\r\nContent-Length: 5", 501), ("POST /rides HTTP/1.1 and more\r\nHost: test", 400),
+            ("POST /rides HTTP/9.1\r\nHost: test", 505), (post + "".join(f"\r\nX-{n}: 1" for n in range(101)), 431),
         ):
-            found, told, _ = self.server.asked(head)
+            found, told, _ = asked(self.server.port, head)
             self.assertEqual((found, list(told)), (status, ["error"]))
         status, told, _ = self.server.put(BYTES[:100], length=len(BYTES), ends=True)
         self.assertEqual((status, told), (400, {"error": f"the upload ended after 100 of {len(BYTES)} bytes"}))
@@ -165,6 +231,54 @@ class Uploads(unittest.TestCase):
                     connection.sendall(part)
                     self.assertEqual(connection.recv(1), b"")
 
+    def test_head(self):
+        """The head of a request has a time of its own, so that a few connections that send nothing don't keep others out for long; the
+        bytes of an upload have more."""
+        with Running("--seconds", "50", "--head-seconds", "0.5", "--at-once", "2") as server:
+            begin = time.monotonic()
+            with server.connected() as one, server.connected() as two:
+                two.sendall(b"POST /rides HTTP/1.1\r\nHost: t")
+                self.assertEqual(server.put(BYTES, wait=30)[0], 200)
+                self.assertEqual((one.recv(1), two.recv(1)), (b"", b""))
+            self.assertTrue(0.4 < time.monotonic() - begin < 30)
+
+            def slow():
+                for at in range(0, len(BYTES), 1000):
+                    time.sleep(0.3)
+                    yield BYTES[at : at + 1000]
+            self.assertEqual(asked(server.port, f"POST /rides HTTP/1.1\r\nHost: test\r\nContent-Length: {len(BYTES)}", slow())[0], 200)
+
+    def test_not_foreseen(self):
+        """What nobody has foreseen is an answer too, and is written down; the place is free again."""
+        class Broken(Quiet):
+            def upload(self):
+                raise ZeroDivisionError("a secret of the server")
+
+        head = f"POST /rides HTTP/1.1\r\nHost: test\r\nContent-Length: {len(BYTES)}"
+        written = io.StringIO()
+        with served(Broken, 1) as (_, port), contextlib.redirect_stderr(written):
+            for _ in range(3):
+                self.assertEqual(asked(port, head, [BYTES], wait=20)[:2], (500, {"error": "the server failed"}))
+        self.assertEqual(written.getvalue().count("ZeroDivisionError: a secret"), 3)
+
+    def test_no_thread(self):
+        """Where no thread can be started the connection is closed, and its place is free again."""
+        head = f"POST /rides HTTP/1.1\r\nHost: test\r\nContent-Length: {len(BYTES)}"
+        begin = threading.Thread.start
+
+        def refuse(thread):
+            raise RuntimeError("can't start new thread")
+
+        with served(Quiet, 2) as (_, port), contextlib.redirect_stderr(io.StringIO()):
+            threading.Thread.start = refuse
+            try:
+                for _ in range(5):
+                    with socket.create_connection(("127.0.0.1", port), timeout=20) as connection:
+                        self.assertEqual(connection.recv(1), b"")
+            finally:
+                threading.Thread.start = begin
+            self.assertEqual(asked(port, head, [BYTES], wait=20)[0], 200)
+
     def test_memory(self):
         """An upload of 2 MB takes less memory than its messages as values would."""
         with Running() as server:
@@ -174,7 +288,7 @@ class Uploads(unittest.TestCase):
             self.assertLess(server.most_memory() - before, 25000000)
 
 
-class Dropping(upload.Handler):
+class Dropping(Quiet):
     """The page with a script that drops a file on it, whose bytes come from here."""
 
     data = b""
@@ -192,9 +306,6 @@ class Dropping(upload.Handler):
         else:
             super().do_GET()
 
-    def log_message(self, *words):
-        pass
-
 
 class Page(unittest.TestCase):
     def test_page(self):
@@ -210,11 +321,9 @@ class Page(unittest.TestCase):
             print("tests/python: there is no Chromium, so what the page of uploads draws isn't looked at", file=sys.stderr)
             self.skipTest("no Chromium")
         handler = type("Handler", (Dropping,), {"data": data})
-        with upload.Server(("127.0.0.1", 0), 1 << 26, 60, 8, handler) as server, tempfile.TemporaryDirectory() as folder:
-            threading.Thread(target=server.serve_forever, daemon=True).start()
+        with served(handler) as (_, port), tempfile.TemporaryDirectory() as folder:
             words = ["--headless", "--no-sandbox", "--disable-gpu", f"--user-data-dir={folder}", "--virtual-time-budget=20000", "--dump-dom"]
-            said = subprocess.run([browser, *words, f"http://127.0.0.1:{server.server_address[1]}/drop"], stdout=subprocess.PIPE, stderr=subprocess.DEVNULL, timeout=120)
-            server.shutdown()
+            said = subprocess.run([browser, *words, f"http://127.0.0.1:{port}/drop"], stdout=subprocess.PIPE, stderr=subprocess.DEVNULL, timeout=120)
         return said.stdout.decode()
 
     def test_drawn(self):
@@ -230,12 +339,45 @@ class Page(unittest.TestCase):
             highest = max(range(len(values)), key=values.__getitem__)
             self.assertEqual((min(y for _, y in points), points[highest][1], max(y for _, y in points)), (40.0, 40.0, 140.0))
 
+    def test_range_of_all(self):
+        """Of a long ride some points are drawn, and the ranges are those of all."""
+        data = make_rides.ride(5, 100)
+        page, lists = self.dropped(data), gazhdor.lists(data, "record", ["altitude", "speed", "heart_rate"])
+        for name, factor, unit in (("altitude", 1, "m"), ("speed", 3.6, "km/h"), ("heart_rate", 1, "bpm")):
+            values = [value * factor for value in lists[name] if value is not None]
+            drawn = re.search(rf'<svg id="{name}".*?<text[^>]*>(.*?)</text><path d="(.*?)">', page, re.S)
+            self.assertIn(f"{min(values):.1f} to {max(values):.1f} {unit}, 5999 s", html.unescape(drawn.group(1)))
+            places = [float(point.split()[1]) for point in re.split("[ML]", drawn.group(2))[1:]]
+            self.assertTrue(1000 <= len(places) <= 2000 and 40 <= min(places) and max(places) <= 140)
+
     def test_refused(self):
         """What is wrong is said, also where the browser has still to send a lot of the file."""
         for data, finding in ((BYTES[:2000], "truncated at byte 2000"), (b"PK" + bytes(9000000), "refused at byte 1: Protocol")):
             page = self.dropped(data)
             self.assertRegex(page, rf'<p id="finding"[^>]*class="bad"[^>]*>a &lt;ride&gt;.fit: {finding}</p>')
             self.assertNotIn("<svg", page)
+
+
+class Loading(unittest.TestCase):
+    def test_names(self):
+        """Names that aren't UTF-8, of rides, of one that isn't there, and of the folder of the database, end nothing."""
+        with tempfile.TemporaryDirectory() as folder:
+            inner = os.path.join(os.fsencode(folder), b"a\xfe")
+            os.mkdir(inner)
+            paths = [os.path.join(inner, name) for name in (b"\xff.fit", "\u00e9.fit".encode(), b"none\xff.fit", b"b.fit")]
+            for path in (paths[0], paths[1], paths[3]):
+                with open(path, "wb") as file:
+                    file.write(BYTES)
+            database = os.path.join(inner, b"rides.db")
+            done = subprocess.run([sys.executable, "examples/python/load_rides.py", database, "2", *paths], stdout=subprocess.PIPE, stderr=subprocess.PIPE)
+            self.assertEqual((done.returncode, done.stderr), (0, b""))
+            self.assertIn(b"4 files, 1 not good, 432 rows", done.stdout)
+            with contextlib.closing(sqlite3.connect(os.fsdecode(database))) as into:
+                rows = into.execute("select path, finding, (select count(*) from record where ride = id) from ride order by id").fetchall()
+        self.assertEqual([(path[len(folder) :], count) for path, _, count in rows],
+                         [("/a\\xfe/\\xff.fit", 144), ("/a\\xfe/\u00e9.fit", 144), ("/a\\xfe/none\\xff.fit", 0), ("/a\\xfe/b.fit", 144)])
+        self.assertEqual([finding for _, finding, _ in rows if finding != "ok"], [rows[2][1]])
+        self.assertIn("No such file or directory", rows[2][1])
 
 
 if __name__ == "__main__":

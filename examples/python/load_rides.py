@@ -1,8 +1,8 @@
 """Loads the record messages of many rides into a new database of sqlite3: load_rides.py DATABASE PROCESSES FILE..
 
 Each process fills a database of its own, of which this one makes one: a row of `ride` for each file with what was found of it, and
-a row of `record` for each record message, also of those before a fault. A file that can't be read has no records, and its finding
-says why. Run it with PYTHONPATH naming the folder python/."""
+a row of `record` for each record message, also of those before a fault. A file that can't be read or loaded has no records, and its
+finding says why. In a path bytes that aren't UTF-8 stand as \\xff. Run it with PYTHONPATH naming the folder python/."""
 import csv
 import functools
 import itertools
@@ -88,6 +88,11 @@ def insert(number, columns):
     return len(file)
 
 
+def as_text(path):
+    """A path as the database has it: text, whatever bytes the name of a file has."""
+    return os.fsencode(path).decode("utf-8", "backslashreplace")
+
+
 def load(job):
     """What a process does with a file. It returns its size, how many records it has, and whether it is good."""
     number, path = job
@@ -103,9 +108,10 @@ def load(job):
             count = insert(number, zip(*table(data)))
     except OSError as error:
         finding = str(error)
-    except MemoryError:
-        finding = "out of memory"
-    into.execute("insert into ride values (?, ?, ?)", (number, path, finding))
+    except Exception as error:  # one file that can't be loaded doesn't end the others
+        into.rollback()
+        finding = "out of memory" if isinstance(error, MemoryError) else f"not loaded: {error!r}"
+    into.execute("insert into ride values (?, ?, ?)", (number, as_text(path), finding))
     into.commit()
     return size, count, finding == "ok"
 
@@ -116,7 +122,7 @@ def join(database, folder):
     os.rename(os.path.join(folder, first), database)
     whole = sqlite3.connect(database)
     for name in others:
-        whole.execute("attach ? as part", (os.path.join(folder, name),))
+        whole.execute("attach ? as part", (os.fsencode(os.path.join(folder, name)),))
         with whole:
             whole.execute("insert into ride select * from part.ride")
             whole.execute("insert into record select * from part.record")
