@@ -38,7 +38,7 @@ fn tell_files(rt: &HostRuntime, files: &[FitFile], left: usize) -> io::Result<()
     println!(rt; "{left} bytes are left")
 }
 
-/// One file after another, and what is returned after the last. A fault is returned again.
+/// One file after another, what is returned after the last, and how many bytes are left. A fault is returned again.
 pub fn file_by_file(rt: &HostRuntime, input: &[u8]) -> io::Result<()> {
     let mut reading = Reading::new(rt.alloc(), input);
     for _ in 0..=input.len() {
@@ -46,7 +46,7 @@ pub fn file_by_file(rt: &HostRuntime, input: &[u8]) -> io::Result<()> {
             break;
         }
     }
-    Ok(())
+    println!(rt; "{} bytes are left", reading.into_source().len())
 }
 
 /// Prints the next file, or what is returned in its place, and says whether there was one.
