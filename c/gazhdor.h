@@ -165,7 +165,8 @@ void gazhdor_close(gazhdor_stream *stream);
 /* Frees what a call has made. GAZHDOR_NO_TEXT, and a text of no bytes, may be given too. */
 void gazhdor_free(gazhdor_text text);
 
-/* The name of a status, as "truncated", and of a reason as the program prints it, as "FileSum"; "unknown" for other numbers. */
+/* The name of a status, as "truncated", and of a reason as the program prints it, as "FileSum"; "unknown" for other numbers.
+ * gazhdor_reason_text, of gazhdor_reasons.h, says in words what a reason says of the byte. */
 const char *gazhdor_status_name(uint32_t status);
 const char *gazhdor_reason_name(uint32_t reason);
 
@@ -177,5 +178,6 @@ const char *gazhdor_version(void);
 #endif
 
 #include "gazhdor_blocks.h"
+#include "gazhdor_reasons.h"
 
 #endif

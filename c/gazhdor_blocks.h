@@ -8,9 +8,9 @@
  *         printf("%lu %g\n", (unsigned long)gazhdor_time(at.block), gazhdor_value(heart, at.block, 0));
  *     }
  *
- * Not proved. None of these reads outside the blocks that it is given, which are memory of their length, whatever bytes they have and
- * whatever the other numbers are. What isn't there is NAN, 0, "" or NULL, as each says. Names and texts lie in the blocks, and last as
- * long as they do. */
+ * Tested, not proved: none of these reads outside the blocks that it is given, which are memory of their length, whatever bytes they
+ * have and whatever the other numbers are. What isn't there is NAN, 0, "" or NULL, as each says. Names and texts lie in the blocks, and
+ * last as long as they do. */
 #ifndef GAZHDOR_BLOCKS_H
 #define GAZHDOR_BLOCKS_H
 

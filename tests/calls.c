@@ -191,6 +191,13 @@ static void named(void)
     WANT(strcmp(gazhdor_status_name(GAZHDOR_NO_KIND + 1), "unknown") == 0);
     WANT(strcmp(gazhdor_reason_name(0), "unknown") == 0);
     WANT(strcmp(gazhdor_reason_name(GAZHDOR_TOO_MANY_FILES + 1), "unknown") == 0);
+    for (uint32_t reason = GAZHDOR_HEADER_SIZE; reason <= GAZHDOR_TOO_MANY_FILES; reason++) {
+        WANT(strncmp(gazhdor_reason_text(reason), "the byte ", 9) == 0);
+        for (uint32_t other = GAZHDOR_HEADER_SIZE; other < reason; other++)
+            WANT(strcmp(gazhdor_reason_text(reason), gazhdor_reason_text(other)) != 0);
+    }
+    WANT(strstr(gazhdor_reason_text(GAZHDOR_UNDEFINED_LOCAL), "local message type isn't defined") != NULL);
+    WANT(strcmp(gazhdor_reason_text(0), "unknown") == 0 && strcmp(gazhdor_reason_text(GAZHDOR_TOO_MANY_FILES + 1), "unknown") == 0);
     WANT(strcmp(gazhdor_version(), GAZHDOR_VERSION) == 0);
 }
 

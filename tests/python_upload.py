@@ -234,17 +234,17 @@ class Uploads(unittest.TestCase):
     def test_head(self):
         """The head of a request has a time of its own, so that a few connections that send nothing don't keep others out for long; the
         bytes of an upload have more."""
-        with Running("--seconds", "50", "--head-seconds", "0.5", "--at-once", "2") as server:
+        with Running("--seconds", "50", "--head-seconds", "1", "--at-once", "2") as server:
             begin = time.monotonic()
             with server.connected() as one, server.connected() as two:
                 two.sendall(b"POST /rides HTTP/1.1\r\nHost: t")
                 self.assertEqual(server.put(BYTES, wait=30)[0], 200)
                 self.assertEqual((one.recv(1), two.recv(1)), (b"", b""))
-            self.assertTrue(0.4 < time.monotonic() - begin < 30)
+            self.assertTrue(0.9 < time.monotonic() - begin < 30)
 
             def slow():
                 for at in range(0, len(BYTES), 1000):
-                    time.sleep(0.3)
+                    time.sleep(0.4)
                     yield BYTES[at : at + 1000]
             self.assertEqual(asked(server.port, f"POST /rides HTTP/1.1\r\nHost: test\r\nContent-Length: {len(BYTES)}", slow())[0], 200)
 
