@@ -10,6 +10,7 @@ pub mod WrongPlace
 pub mod NoFaultWhereFits
 pub mod KeptInPlaces
 pub mod FirstOfNumber
+pub mod BytesOfNumbers
 pub mod MessageSizes
 pub mod ReadMessages
 pub mod RoomSums

@@ -227,9 +227,10 @@ impl<A: Allocator + Copy> Env<A> {
         }
     }
 
-    /// Keeps the base type code of a developer field.
+    /// Keeps the base type code of a developer field, as `learn` does of a message that describes it. Where an allocation fails, nothing
+    /// changes.
     #[inline(never)]
-    fn describe(&mut self, s: Description) -> Result<(), AllocError>
+    pub fn describe(&mut self, s: Description) -> Result<(), AllocError>
         ensures ok { OnOk result (self.new ≡ describe self.old (Some s)) }
         ensures err { OnErr result (self.new ≡ self.old) }
     {
