@@ -1,5 +1,5 @@
 -- A data message at the front of bytes, and whether it is a field description.
-use Rattle.fit_step.proofs.Common.{◌≡◌, ◌++◌, ◌+◌, ◌≤◌, ℕ, List, length, take, drop, sym, subst, Some, Option, option_map, IfSome, IsSomeAnd}
+use Rattle.fit_step.proofs.Common.{◌≡◌, ◌++◌, ◌+◌, ◌≤◌, ◌<◌, ℕ, zero, suc, arith, List, length, take, drop, sym, subst, Some, Option, option_map, IfSome, IsSomeAnd}
 use Rattle.fit_step.proofs.Common.{Data, Defined, Values, Environment, defined_at, IsRecord, HasMessage}
 use Rattle.fit_record.specs.declared.message_bytes.MessageBytes.{MessageBytes}
 use Rattle.fit_record.specs.MessageBytes.{message_in}
@@ -22,3 +22,8 @@ pub message_found : {A : Type 0} (e : Environment A) (piece : List ℕ) (size : 
     → IsSomeAnd o (λ m. (message_in m ≡ v) × (1 + length m.body.now ≡ length front)))
     → IsSomeAnd o (λ m. (message_in m ≡ has.0) × (1 + length m.body.now ≡ length (take size piece)))
 message_found e piece size o (v, within, is, plain) found = found v (take size piece) (drop size piece) (sym (take-append-drop size piece)) is
+
+-- it has its record header at least
+pub has_some : {A : Type 0} (e : Environment A) (piece : List ℕ) (size : ℕ) → HasMessage e piece size → 0 < size
+has_some e piece zero (v, within, is, plain) = absurd (let none = is.1 in cc)
+has_some e piece (suc size) has = omega arith

@@ -6,6 +6,7 @@ use Rattle.fit_step.proofs.Common.{Values, Environment, defined_at, defined_by, 
 use Rattle.fit_step.proofs.Common.{is_definition, local_type, message_size, AllFit, record_bytes, records_bytes, IsRecord, size_to_skip, AreSizesToSkip}
 use Rattle.fit_step.proofs.Common.{HeadsMessage, IsSkipped, Learns, SkipsInSection, AreSkipped, ◌≤◌, ◌==◌, drop, slice_index, slice_set, ◌-◌, Record}
 use Rattle.fit_step.proofs.Common.{learn_all, CanFill, six_and_more, Position}
+use Rattle.std.specs.Prelude.{slice_index_or}
 use Rattle.std.proofs.lemmas.Grind.{get_or-set_at}
 use Rattle.fit_record.proofs.RecordLists.{all_fit-append, records_bytes-append, learn_all-append}
 use Rattle.fit_step.proofs.WholeMessage.{data_read, data_record}
@@ -75,8 +76,9 @@ one_more e f after bytes used size count within (rs, (are, same), long) (r, is, 
     )
 
 -- the one message as a list
-pub one_learned : {A : Type 0} (e : Environment A) (v : Values A) (y : List ℕ) → IsRecord e (Data v) y → learn e (Data v) ≡ e → Learns e e y (Data v ∷ [])
-one_learned e v y is stays = (((is.0, tt), is.1 ∙ sym (append-nil (record_bytes e (Data v)))), stays)
+pub one_learned : {A : Type 0} (e after : Environment A) (v : Values A) (y : List ℕ) → IsRecord e (Data v) y → learn e (Data v) ≡ after
+    → Learns e after y (Data v ∷ [])
+one_learned e after v y is stays = (((is.0, tt), is.1 ∙ sym (append-nil (record_bytes e (Data v)))), stays)
 
 -- ---- by the table of sizes
 
@@ -111,6 +113,11 @@ sizes_after {A} e d sizes size long low told is k less =
       | inr other ↦ get_or-set_other sizes d.local k size 0 other.1 ∙ told k less
           ∙ size_at (learn e (Define d)) k (defined_at e k) (sym (get_or-set_other e.places d.local k (Some (defined_by e d)) None other.1))
     ]
+
+-- the sizes depend on the places alone
+pub sizes_stay : {A : Type 0} (e f : Environment A) (sizes : List ℕ) → f.places ≡ e.places → AreSizesToSkip e sizes → AreSizesToSkip f sizes
+sizes_stay {A} e f sizes same told local less =
+    told local less ∙ size_at f local (defined_at e local) (sym (ap (λ (places : List (Option (Defined A))). slice_index_or places local None) same))
 
 -- ---- in a data section
 

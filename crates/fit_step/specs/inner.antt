@@ -6,3 +6,4 @@ pub mod Scans
 pub mod Repeated
 pub mod Definitions
 pub mod Whole
+pub mod ByBytes

@@ -1,6 +1,7 @@
 //! One record of the FIT protocol, byte by byte.
 #![tactic(auto)]
 
+mod by_bytes;
 mod definition;
 mod definition_byte;
 mod header;

@@ -1,4 +1,4 @@
-//! Records that a reader skips: it counts them and learns their definitions, and makes no record of data messages.
+//! Records that a reader skips: it counts them and learns what they define and describe, and makes no record of data messages.
 ghost use Rattle.std.specs.Prelude.{◌≡◌, ℕ, ◌<◌, ◌≤◌, ◌+◌, IfSome, None, List, [], ◌∷◌, length, slice_index, take};
 ghost use Rattle.fit_record.specs.declared.message.Values.{Values};
 ghost use Rattle.fit_record.specs.declared.message.Record.{Record};
@@ -6,6 +6,7 @@ ghost use Rattle.fit_record.specs.declared.message.Record.TheVariants.{Values as
 ghost use Rattle.fit_step.specs.Skipping.{size_to_skip, AreSizesToSkip, HeadsMessage, HasMessage, IsSkipped, AreSkipped, SkipsInSection};
 
 use crate::Position;
+use crate::by_bytes::learn_message;
 use crate::header::{has_reserved_bit, is_definition, local_type};
 use crate::read_definition::{definition_bytes, read_fields, with_fields};
 use crate::repeated::is_known;
@@ -118,13 +119,18 @@ fn skip_record<A: Allocator + Copy>(
     if size > 0 {
         return size;
     }
-    skip_definition(alloc, env, sizes, bytes)
+    let defined = skip_definition(alloc, env, sizes, bytes);
+    if defined > 0 {
+        return defined;
+    }
+    learn_message(env, bytes)
 }
 
-/// Skips complete records at the front of these bytes: how many bytes they have, and how many they are. What they define is learned.
+/// Skips complete records at the front of these bytes: how many bytes they have, and how many they are. What they define and describe is
+/// learned.
 ///
 /// It ends before the first record that isn't complete, or isn't allowed there; before a definition message that has developer
-/// fields, or for which there is no memory; and before a data message that may describe a developer field.
+/// fields; and before one that defines or describes something for which there is no memory.
 fn skip_records<A: Allocator + Copy>(alloc: A, env: &mut Env<A>, bytes: &[u8]) -> (usize, u64)
     ensures within { result.0 ≤ length bytes.now }
     ensures records { AreSkipped env.old env.new (take result.0 bytes.now) result.1 }
@@ -142,8 +148,21 @@ fn skip_records<A: Allocator + Copy>(alloc: A, env: &mut Env<A>, bytes: &[u8]) -
     (used, bytes.len() as u64)
 }
 
+/// The bytes of a piece that come before the last six of that many.
+#[inline(always)]
+fn before_last_six(room: u32, piece: &[u8]) -> &[u8]
+    requires { 6 ≤ room }
+    ensures front { result.now ≡ take (length result.now) piece.now }
+    ensures within { length result.now ≤ length piece.now }
+    ensures left { length result.now + 6 ≤ room }
+{
+    let most = piece.len().min((room - 6) as usize);
+    let (front, _) = piece.split_at(most);
+    front
+}
+
 /// Skips complete records at the front of the piece, where a record begins and at least six bytes of the data section are to come
-/// after them: how many bytes they have, and how many they are. What they define is learned.
+/// after them: how many bytes they have, and how many they are. What they define and describe is learned.
 ///
 /// It ends where `Decoder::skip_records` of `fit_decode` does.
 pub fn skip_in_section<A: Allocator + Copy>(
@@ -165,18 +184,16 @@ pub fn skip_in_section<A: Allocator + Copy>(
     if position.room < 6 {
         return (0, 0);
     }
-    let most = piece.len().min((position.room - 6) as usize);
-    let (front, _) = piece.split_at(most);
+    let front = before_last_six(position.room, piece);
     let (used, count) = skip_records(alloc, env, front);
     position.room -= used as u32;
     (used, count)
 }
 
-/// Skips the data message at the front of the piece, where a record begins and at least six bytes of the data section are to come
-/// after it: how many bytes it has, or 0 where none is skipped. What is known stays.
-///
-/// None is skipped where `Decoder::skip_records` of `fit_decode` would skip none, and before a definition message.
-pub fn skip_message_in_section<A: Allocator + Copy>(
+/// Skips the data message at the front of the piece, where it is no field description, a record begins, and at least six bytes of the data
+/// section are to come after it: how many bytes it has, or 0 where none is skipped. What is known stays.
+#[inline(always)]
+fn skip_plain_message<A: Allocator>(
     env: &Env<A>,
     position: &mut Position,
     in_progress: &Option<Record<A>>,
@@ -196,4 +213,61 @@ pub fn skip_message_in_section<A: Allocator + Copy>(
     let used = 1 + message.body.len();
     position.room -= used as u32;
     used
+}
+
+/// Skips any data message at the front of the piece, where a record begins and at least six bytes of the data section are to come after
+/// it: how many bytes it has, or 0 where none is skipped. What it describes is learned. It stands apart, since few messages describe
+/// anything.
+#[cold]
+#[inline(never)]
+fn skip_any_message<A: Allocator + Copy>(
+    env: &mut Env<A>,
+    position: &mut Position,
+    in_progress: &Option<Record<A>>,
+    piece: &[u8],
+) -> usize
+    ensures within { result ≤ length piece.now }
+    ensures none { result ≡ 0 → position.new ≡ position.old }
+    ensures known { result ≡ 0 → env.new ≡ env.old }
+    ensures message { 0 < result → (v : Values A) × SkipsInSection env.old position.old
+        in_progress.now env.new position.new piece.now result (Data v ∷ []) }
+{
+    match in_progress {
+        Some(_) => return 0,
+        None => {}
+    }
+    if position.room < 6 {
+        return 0;
+    }
+    let front = before_last_six(position.room, piece);
+    let used = learn_message(env, front);
+    position.room -= used as u32;
+    used
+}
+
+/// Skips the data message at the front of the piece, where a record begins and at least six bytes of the data section are to come
+/// after it: how many bytes it has, or 0 where none is skipped. What it describes is learned.
+///
+/// None is skipped where `Decoder::skip_records` of `fit_decode` would skip none, and before a definition message.
+#[inline(always)]
+pub fn skip_message_in_section<A: Allocator + Copy>(
+    env: &mut Env<A>,
+    position: &mut Position,
+    in_progress: &Option<Record<A>>,
+    piece: &[u8],
+) -> usize
+    ensures within { result ≤ length piece.now }
+    ensures none { result ≡ 0 → position.new ≡ position.old }
+    ensures known { result ≡ 0 → env.new ≡ env.old }
+    ensures message { 0 < result → (v : Values A) × SkipsInSection env.old position.old
+        in_progress.now env.new position.new piece.now result (Data v ∷ []) }
+    // One that is all in the piece is skipped, unless it is a field description.
+    ensures whole { in_progress.now ≡ None → (size : ℕ) → HasMessage env.old piece.now size
+        → size + 6 ≤ position.old.room → result ≡ size }
+{
+    let used = skip_plain_message(env, position, in_progress, piece);
+    if used > 0 {
+        return used;
+    }
+    skip_any_message(env, position, in_progress, piece)
 }

@@ -1,4 +1,4 @@
-use Rattle.fit_step.proofs.Common.{◌≡◌, ◌+◌, [], take, refl, ap, ◌∙◌, subst, arith, take-take, Learns, ◌≤◌}
+use Rattle.fit_step.proofs.Common.{◌≡◌, ◌+◌, [], take, refl, ap, ◌∙◌, subst, arith, take-take, length, Learns, ◌≤◌}
 use Rattle.fit_step.proofs.SkippedRecords.{skipped_after, none_skipped}
 use Rattle.fit_step.proofs.skipping.skip_in_section.Goals as goal
 
@@ -19,9 +19,10 @@ returns-clause-skips g c =
     let s = c.skip_records-used in
     let piece = c.args.piece.now in
     let used = s.result.0 in
-    let small : used ≤ c.min-most.result = omega (arith, s.ensures.within, c.split_at.ensures.front_len) in
-    let large : used + 6 ≤ c.args.position.now.room = omega (arith, small, c.min-most.ensures, c.if-position-lt6.false) in
-    let same : take used c.split_at.result.0.now ≡ take used piece = ap (take used) c.split_at.ensures.front ∙ take-take used c.min-most.result piece small in
+    let front = c.before_last_six-front in
+    let large : used + 6 ≤ c.args.position.now.room = omega (arith, s.ensures.within, front.ensures.left) in
+    let same : take used front.result.now ≡ take used piece =
+    ap (take used) front.ensures.front ∙ take-take used (length front.result.now) piece s.ensures.within in
     let (records, learns, count) = s.ensures.records in
     let all = subst (λ y. Learns c.args.env.now s.new.env y records) same learns in (
       records,

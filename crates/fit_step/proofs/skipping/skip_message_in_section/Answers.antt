@@ -1,34 +1,18 @@
-use Rattle.fit_step.proofs.Common.{◌+◌, [], ◌∷◌, length, refl, Data, arith}
-use Rattle.fit_record.specs.MessageBytes.{message_in}
-use Rattle.fit_step.proofs.SkippedRecords.{skipped_after, one_learned}
+use Rattle.fit_step.proofs.Common.{◌≡◌, [], ◌∷◌, sym, subst, arith, Data, SkipsInSection}
+use Rattle.fit_record.specs.declared.message.Values.{Values}
+use Rattle.fit_step.proofs.PlainMessages.{has_some}
 use Rattle.fit_step.proofs.skipping.skip_message_in_section.Goals as goal
 
-pub overflow_cast-position : goal.overflow_cast-position
-overflow_cast-position g c = omega (arith, c.in-Some.ensures.plain.left)
+pub returns-clause-message : goal.returns-clause-message
+returns-clause-message g c = λ some.
+    let a = c.skip_any_message in
+    let (v, skips) = a.ensures.message some in
+    let none : c.skip_plain_message-used.result ≡ 0 = omega (arith, c.if-used-gt0.false) in (
+      v,
+      subst (λ p. SkipsInSection c.args.env.now p c.args.in_progress.now a.new.env a.new.position c.args.piece.now a.result (Data v ∷ []))
+          (c.skip_plain_message-used.ensures.none none) skips,
+    )
 
-pub overflow_sub-position : goal.overflow_sub-position
-overflow_sub-position g c = omega (arith, c.in-Some.ensures.plain.left)
-
-pub returns : goal.returns
-returns g c =
-    let e = c.args.env.now in
-    let m = c.in-Some.message in
-    let told = c.in-Some.ensures.plain in
-    record {
-      within = told.stands.within;
-      none = λ none. absurd (omega (arith, none));
-      message = λ some. (
-        message_in m,
-        skipped_after e e c.args.position.now c.args.in_progress.now c.args.piece.now (1 + length m.body.now) (Data (message_in m) ∷ []) told.idle told.left
-            (one_learned e (message_in m) _ told.stands.spelled told.learned),
-      );
-      whole = c.in-Some.ensures.whole;
-    }
-
-pub returns-in_default : goal.returns-in_default
-returns-in_default g c = record {
-  within = omega arith;
-  none = λ _. refl;
-  message = λ some. absurd (omega (arith, some));
-  whole = λ idle size has large. absurd (c.in_default.ensures.whole idle size has large);
-}
+pub returns-clause-whole : goal.returns-clause-whole
+returns-clause-whole g c = λ idle size has large.
+    absurd (omega (arith, c.skip_plain_message-used.ensures.whole idle size has large, has_some c.args.env.now c.args.piece.now size has, c.if-used-gt0.false))
