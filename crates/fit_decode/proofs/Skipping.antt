@@ -218,22 +218,22 @@ module _ {A : Type 0} (d : Inside A) (k : IsSoundDecoder d) (at : d.stage.sectio
 
 -- with the last byte of a message an event is complete
 pub message_completes : {A : Type 0} (d : Inside A) (k : IsSoundDecoder d) → d.stage.section ≡ InSection → (piece : List ℕ)
-    (position : Position) (used : ℕ) (v : Values A) → IsBytes piece → used ≤ length piece
-    → SkipsInSection d.env d.position d.in_progress d.env position piece used (Message v ∷ [])
+    (after : Environment A) (position : Position) (used : ℕ) (v : Values A) → IsBytes piece → used ≤ length piece
+    → SkipsInSection d.env d.position d.in_progress after position piece used (Message v ∷ [])
     → (old : Seen) → seen_in d ≡ old → 0 < used → MayLackMemoryIn A IsAny old.bytes piece
-message_completes {A} d k at piece position used v low within skip old seen some =
+message_completes {A} d k at piece after position used v low within skip old seen some =
     let sum : List ℕ = d.sum ++ take used piece in
-    let all = skips (fields_inside d) d.history.items piece d.env sum position used (Message v ∷ []) k.are low at within skip refl k.viable k.holds in
-    let least = message_least (fields_inside d) d.history.items piece d.env sum position used (Message v ∷ []) k.are low v at within skip k.holds some in
+    let all = skips (fields_inside d) d.history.items piece after sum position used (Message v ∷ []) k.are low at within skip refl k.viable k.holds in
+    let least = message_least (fields_inside d) d.history.items piece after sum position used (Message v ∷ []) k.are low v at within skip k.holds some in
     subst (λ b. MayLackMemoryIn A IsAny b piece) (ap (λ (o : Seen). o.bytes) seen)
     (lacks_for_event IsAny d.history.items piece used (item (Message v)) tt some within all.viable least)
 
 -- one message at most is skipped
-pub message_skipped : {A : Type 0} (e : Environment A) (p q : Position) (idle : Option (Record A)) (piece : List ℕ) (used : ℕ)
-    → (used ≡ 0 → q ≡ p) → (0 < used → (v : Values A) × SkipsInSection e p idle e q piece used (Message v ∷ []))
-    → (records : List (Record A)) × SkipsInSection e p idle e q piece used records
-message_skipped e p q idle piece zero none some = ([], λ room bytes h. inl (refl, refl, refl, none refl))
-message_skipped e p q idle piece (suc k) none some = let m = some (omega arith) in (Message m.0 ∷ [], m.1)
+pub message_skipped : {A : Type 0} (e after : Environment A) (p q : Position) (idle : Option (Record A)) (piece : List ℕ) (used : ℕ)
+    → (used ≡ 0 → q ≡ p) → (used ≡ 0 → after ≡ e) → (0 < used → (v : Values A) × SkipsInSection e p idle after q piece used (Message v ∷ []))
+    → (records : List (Record A)) × SkipsInSection e p idle after q piece used records
+message_skipped e after p q idle piece zero none same some = ([], λ room bytes h. inl (refl, refl, same refl, none refl))
+message_skipped e after p q idle piece (suc k) none same some = let m = some (omega arith) in (Message m.0 ∷ [], m.1)
 
 -- ---- one that is all in the piece
 

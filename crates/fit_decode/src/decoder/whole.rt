@@ -16,13 +16,13 @@ use fit_step::{skip_in_section, skip_message_in_section};
 use std::alloc::Allocator;
 
 impl<A: Allocator + Copy> Decoder<A> {
-    /// Skips records at the front of the piece: they count as fed, what they define is learned, and no event is made of them.
-    /// Returns how many bytes were used, and how many records they are. It refuses nothing, and takes memory only for
-    /// definition messages.
+    /// Skips records at the front of the piece: they count as fed, what they define and describe is learned, and no event is made of
+    /// them. Returns how many bytes were used, and how many records they are. It refuses nothing, and takes memory only for
+    /// definition messages and field descriptions.
     ///
     /// It ends before the first record that is for `feed`: one that isn't complete in the piece, or isn't allowed there; a definition
-    /// message that has developer fields, or for which there is no memory; a data message that may describe a developer field; and
-    /// one that ends in the last six bytes of a data section.
+    /// message that has developer fields; one that defines or describes something for which there is no memory; and one that ends
+    /// in the last six bytes of a data section.
     pub fn skip_records(&mut self, piece: &[u8]) -> (usize, u64)
         ensures within { result.0 ≤ length piece.now }
         ensures used { self.new ≡ record self.old
@@ -50,9 +50,9 @@ impl<A: Allocator + Copy> Decoder<A> {
         (skipped, count)
     }
 
-    /// Skips the data message at the front of the piece: it counts as fed, and no event is made of it. Returns how many bytes it
-    /// has, or 0 where none is skipped: where `skip_records` would skip none, and before a definition message. It refuses nothing,
-    /// and takes no memory.
+    /// Skips the data message at the front of the piece: it counts as fed, what it describes is learned, and no event is made of it.
+    /// Returns how many bytes it has, or 0 where none is skipped: where `skip_records` would skip none, and before a definition
+    /// message. It refuses nothing, and takes memory only for a field description.
     pub fn skip_message(&mut self, piece: &[u8]) -> usize
         ensures within { result ≤ length piece.now }
         ensures used { self.new ≡ record self.old
@@ -63,7 +63,7 @@ impl<A: Allocator + Copy> Decoder<A> {
             × AreEvents self.new.bytes (events ++ item (Data v) ∷ []) }
         // So one of them completes an event, for which the caller may take memory.
         ensures completes { 0 < result → MayLackMemoryIn A IsAny self.old.bytes piece.now }
-        // One that is all in the piece is skipped, unless `skip_records` would leave it.
+        // One that is all in the piece is skipped, unless it is a field description, or ends in the last six bytes.
         ensures whole { self.old.refusal ≡ None → (size : ℕ)
             → MessageFollows A self.old.bytes piece.now size → result ≡ size }
         // After a refusal nothing is used.
@@ -74,7 +74,12 @@ impl<A: Allocator + Copy> Decoder<A> {
         let Section::Data = self.stage.section else {
             return 0;
         };
-        let size = skip_message_in_section(&self.env, &mut self.position, &self.in_progress, piece);
+        let size = skip_message_in_section(
+            &mut self.env,
+            &mut self.position,
+            &self.in_progress,
+            piece,
+        );
         cover(&mut self.sum, piece, size);
         count_fed(&mut self.history, &mut self.count, piece, size);
         size

@@ -24,16 +24,18 @@ pub count_fed-requires-clause-fits : goal.count_fed-requires-clause-fits
 count_fed-requires-clause-fits g c =
     let s = c.skip_message_in_section-size in
     let d = c.self.inside in
-    let (records, skip) = message_skipped d.env d.position s.new.position d.in_progress c.args.piece.now s.result s.ensures.none s.ensures.message in
-    few_skipped d c.self.invariant c.in-Data.is c.args.piece.now d.env (d.sum ++ take s.result c.args.piece.now) s.new.position s.result records
+    let (records, skip) = message_skipped d.env s.new.env d.position s.new.position d.in_progress c.args.piece.now s.result s.ensures.none s.ensures.known
+    s.ensures.message in
+    few_skipped d c.self.invariant c.in-Data.is c.args.piece.now s.new.env (d.sum ++ take s.result c.args.piece.now) s.new.position s.result records
     (slice_is_bytes c.args.piece.now c.type_inv.piece) s.ensures.within skip refl
 
 pub invariant_of-self : goal.invariant_of-self
 invariant_of-self g c =
     let s = c.skip_message_in_section-size in
     let d = c.self.inside in
-    let (records, skip) = message_skipped d.env d.position s.new.position d.in_progress c.args.piece.now s.result s.ensures.none s.ensures.message in
-    skipped_kept d c.self.invariant c.in-Data.is c.args.piece.now d.env c.cover.new.sum s.new.position s.result records
+    let (records, skip) = message_skipped d.env s.new.env d.position s.new.position d.in_progress c.args.piece.now s.result s.ensures.none s.ensures.known
+    s.ensures.message in
+    skipped_kept d c.self.invariant c.in-Data.is c.args.piece.now s.new.env c.cover.new.sum s.new.position s.result records
     (slice_is_bytes c.args.piece.now c.type_inv.piece) s.ensures.within skip c.cover.ensures _ c.count_fed.ensures.noted refl c.count_fed.ensures.counted
 
 pub returns-clause-message : goal.returns-clause-message
@@ -41,7 +43,7 @@ returns-clause-message g c = λ some events are.
     let s = c.skip_message_in_section-size in
     let d = c.self.inside in
     let (v, skip) = s.ensures.message some in
-    let told = records_skipped d c.self.invariant c.in-Data.is c.args.piece.now d.env c.cover.new.sum s.new.position s.result (Message v ∷ [])
+    let told = records_skipped d c.self.invariant c.in-Data.is c.args.piece.now s.new.env c.cover.new.sum s.new.position s.result (Message v ∷ [])
     (slice_is_bytes c.args.piece.now c.type_inv.piece) s.ensures.within skip c.cover.ensures
     c.args.self.now c.self.view_is c.count_fed.new.history.items c.count_fed.ensures.noted events are in
     (v, (told.0.0.0, told.0.1 ∙ append-nil (record_bytes (known_after events) (Message v))), told.1)
@@ -50,7 +52,7 @@ pub returns-clause-completes : goal.returns-clause-completes
 returns-clause-completes g c = λ some.
     let s = c.skip_message_in_section-size in
     let (v, skip) = s.ensures.message some in
-    message_completes c.self.inside c.self.invariant c.in-Data.is c.args.piece.now s.new.position s.result v
+    message_completes c.self.inside c.self.invariant c.in-Data.is c.args.piece.now s.new.env s.new.position s.result v
     (slice_is_bytes c.args.piece.now c.type_inv.piece) s.ensures.within skip c.args.self.now c.self.view_is some
 
 pub returns-clause-refused : goal.returns-clause-refused
