@@ -1,7 +1,7 @@
 //! Data messages that a stream takes in by their bytes.
-ghost use Rattle.std.specs.Prelude.{◌≡◌, ◌==◌, ◌++◌, ◌∷◌, [], Bool, List, Option, length, true, IfOk, IfSome, IsSome, IsSomeAnd, None, Some, slice_index_or};
+ghost use Rattle.std.specs.Prelude.{◌≡◌, ◌==◌, ◌++◌, ◌∷◌, [], Bool, List, Option, length, true, false, IfOk, IfSome, IsSome, IsSomeAnd, None, Some, slice_index_or};
 ghost use Rattle.std.specs.declared.alloc.Global.{Global};
-ghost use Rattle.fit_record.specs.Environment.{defined_at, described_by};
+ghost use Rattle.fit_record.specs.Environment.{defined_at, described_by, description};
 ghost use Rattle.fit_record.specs.Faults.{or_else};
 ghost use Rattle.fit_record.specs.MessageBytes.{message_in};
 ghost use Rattle.fit_record.specs.Records.{message_size, IsRecord};
@@ -220,8 +220,20 @@ fn lone_fields(
     }
 }
 
-/// Takes in the data message that the bytes are, and says what is told of it, where it is no field description. None of a field
-/// description, which is left. Whether each field is one number is said where the caller asks for it.
+/// Whether a message describes a developer field. Most are told by their plan that they don't.
+#[inline(always)]
+fn describes(plan: &Plan, message: &MessageBytes<'_>) -> bool
+    requires plan { IsPlan plan.now message.now.defined.now.definition }
+    requires size { length message.now.body.now ≡ message_size message.now.defined.now }
+    ensures some { result ≡ true → (message.now.defined.now.definition.global == 206) ≡ true }
+    ensures none { result ≡ false
+        → description message.now.defined.now.definition (message_in message.now) ≡ None }
+{
+    plan.describes && message.description().is_some()
+}
+
+/// Takes in the data message that the bytes are, and says what is told of it, where it describes no developer field. None where it does:
+/// then it is left. Whether each field is one number is said where the caller asks for it.
 #[inline(always)]
 pub(crate) fn take_telling(
     env: &Env,
@@ -250,7 +262,7 @@ pub(crate) fn take_telling(
 {
     let message = message_of(env, bytes);
     let plan = plan_of(plans, &message);
-    if plan.describes {
+    if describes(plan, &message) {
         return None;
     }
     let known = plan.has_lone_fields;

@@ -232,7 +232,7 @@ impl Stream {
     }
 
     /// Takes the next record in, as `take` does, where it is the data message that these bytes are: a
-    /// record is made of a field description alone. If memory runs out, the stream stays as it was.
+    /// record is made only of one that describes a developer field. If memory runs out, the stream stays as it was.
     pub fn take_message(&mut self, bytes: &[u8]) -> Result<(), AllocError>
         requires { (v : Values Global) × IsRecord (known self.old) (Data v) bytes.now }
         ensures ok { OnOk result ((v : Values Global)
@@ -250,8 +250,8 @@ impl Stream {
         }
     }
 
-    /// Takes in the data message that these bytes are, and says what is told of it, where it is no field description. None of a field
-    /// description, which is left. Whether each field is one number is said where the caller asks for it.
+    /// Takes in the data message that these bytes are, and says what is told of it, where it describes no developer field. None where it
+    /// does: then it is left. Whether each field is one number is said where the caller asks for it.
     #[inline(always)]
     fn take_telling(&mut self, asks: bool, bytes: &[u8]) -> Option<Taken>
         requires { (v : Values Global) × IsRecord (known self.old) (Data v) bytes.now }

@@ -3,7 +3,7 @@ use Rattle.fit_profile.proofs.Common.{defined_at, described_by, tell, last_after
 use Rattle.std.proofs.Common.{◌==◌}
 use Rattle.fit_record.specs.MessageBytes.{message_in}
 use Rattle.fit_record.specs.declared.message.Record.TheVariants.{Values as Data}
-use Rattle.fit_profile.proofs.NoCounters.{tells, describes-nothing}
+use Rattle.fit_profile.proofs.NoCounters.{tells, described_none}
 use Rattle.fit_profile.proofs.TakenMessages.{said_of_it}
 use Rattle.fit_profile.proofs.message_bytes.take_telling.Goals as goal
 
@@ -38,13 +38,13 @@ pub returns-clause-nothing : goal.returns-clause-nothing
 returns-clause-nothing c _ v is =
     let m = c.message_of-message.result in
     subst (λ w. described_by c.args.env.now w ≡ None) (c.message_of-message.ensures.read v is)
-    (describes-nothing c.args.env.now m.defined.now (message_in m) c.message_of-message.ensures.defined
-    (sym c.plan_of-plan.ensures.describes ∙ c.if-plan.false))
+    (described_none c.args.env.now m.defined.now (message_in m) c.message_of-message.ensures.defined
+    (c.describes.ensures.none c.if-describes.false))
 
-pub returns-then-plan-clause-describes : goal.returns-then-plan-clause-describes
-returns-then-plan-clause-describes c _ v is =
+pub returns-then-describes-clause-describes : goal.returns-then-describes-clause-describes
+returns-then-describes-clause-describes c _ v is =
     let m = c.message_of-message.result in
     let e = c.args.env.now in
     subst (λ w. IsSomeAnd (defined_at e w.local) (λ p. (p.definition.global == 206) ≡ true)) (c.message_of-message.ensures.read v is)
     (subst (λ o. IsSomeAnd o (λ p. (p.definition.global == 206) ≡ true)) (sym c.message_of-message.ensures.defined)
-    (sym c.plan_of-plan.ensures.describes ∙ c.if-plan.true))
+    (c.describes.ensures.some c.if-describes.true))
