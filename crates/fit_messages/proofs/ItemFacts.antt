@@ -12,7 +12,9 @@ use Rattle.fit_base.proofs.Bytes.{found_passes}
 use Rattle.fit_base.specs.BaseTypes.{base_type, base_types, byte, item_width}
 use Rattle.fit_base.proofs.SameItems.{width_positive}
 use borrow.Author.Tests.{ltb-true}
-use Rattle.std.proofs.Math.Nat.{div_self, mod_self, pow-suc, suc-mul}
+use Rattle.std.proofs.Math.Nat.{div_self, mod_self, pow-suc, suc-mul, zero-div}
+use Rattle.std.proofs.lemmas.List.Sums.{sum_by-cons}
+use Rattle.fit_record.specs.Records.{sizes}
 use Rattle.fit_base.specs.Numbers.{IsBytes, little_bytes, number}
 use Rattle.fit_base.proofs.ByteLists.{IsBytes-take, IsBytes-drop}
 use Rattle.fit_base.specs.declared.items.Items.{Items}
@@ -81,6 +83,23 @@ slot_turned o f w bytes old wide long =
     ∙ ap (λ n. (old ++ flat_map (low v) (numbers_of o v (n / v) bytes)) ++ replicate (gap (length bytes)) 0) long
     ∙ ap (λ n. (old ++ flat_map (low v) items.bits) ++ replicate (gap n) 0) (sym many)
     ∙ slot_put items old
+
+-- a field without bytes has no items
+pub slot_empty : (o : Order) (code size : ℕ) (bytes : List ℕ) → size ≡ 0 → slot (field_from {A = Global} o (code, size) bytes) ≡ []
+unfolding low
+slot_empty o code size bytes none =
+    let w = item_width code size in
+    let no_items : size / w ≡ 0 = ap (λ n. n / w) none ∙ zero-div w in
+    ap (λ n. slot {A = Global} (record { width = w; bits = numbers_of o w n bytes })) no_items
+
+-- nor have fields without bytes
+pub slots_empty : (o : Order) (slots : List (ℕ × ℕ)) (bytes : List ℕ) → sizes slots ≡ 0 → flat_map slot (fields_from {A = Global} o slots bytes) ≡ []
+slots_empty o [] bytes none = refl
+slots_empty o (f ∷ slots) bytes none =
+    let all : sizes (f ∷ slots) ≡ f.1 + sizes slots = sum_by-cons (λ (s : ℕ × ℕ). s.1) f slots in
+    let first = slot_empty o f.0 f.1 (take f.1 bytes) (omega (arith, none, all)) in
+    ap (λ b. b ++ flat_map slot (fields_from {A = Global} o slots (drop f.1 bytes))) first
+    ∙ slots_empty o slots (drop f.1 bytes) (omega (arith, none, all))
 
 -- ---- one number and one field more
 

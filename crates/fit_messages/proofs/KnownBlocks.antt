@@ -1,11 +1,12 @@
 -- Blocks that are worked by hand from `docs/BLOCKS.md`.
-use Rattle.std.proofs.Common.{◌≡◌, [], ◌∷◌, refl, reverse}
+use Rattle.std.proofs.Common.{◌≡◌, ℕ, [], ◌∷◌, refl, reverse}
 use Rattle.fit_record.proofs.KnownFiles.{both_architectures, described_field, empty_file}
 use Rattle.fit_chain.specs.Events.{file_events}
 use Rattle.fit_report.specs.Heard.{text_of}
 unfoldable use Rattle.std.specs.Str.{is_utf8, chars}
 use lib.Utf8.{encode}
-use Rattle.fit_messages.specs.Blocks.{event_block}
+use Rattle.fit_profile.specs.Profile.{Meaning}
+use Rattle.fit_messages.specs.Blocks.{column, event_block}
 unfoldable use Rattle.fit_messages.specs.Blocks.{low}
 
 -- a file without records
@@ -112,3 +113,27 @@ described_field_blocks : text_of event_block (reverse (file_events described_fie
     ∷ [])
 unfolding low is_utf8 chars encode
 described_field_blocks = refl
+
+-- ---- scale and offset
+
+-- of a field of record messages
+abbrev meaning_of : ℕ → ℕ → ℕ → Meaning
+meaning_of number size code = (column 20 (record { number = number; size = size; code = code })).meaning
+
+-- whole numbers of speed are in thousandths of a meter a second, those of altitude in fifths of a meter after 500
+uint16_speed : (meaning_of 6 2 0x84).scale ≡ 1000
+uint16_speed = refl
+
+uint16_altitude : (meaning_of 2 2 0x84).offset ≡ 500
+uint16_altitude = refl
+
+-- floats are meters a second, and meters
+float32_speed : (meaning_of 6 4 0x88).scale ≡ 1
+float32_speed = refl
+
+float64_altitude : (meaning_of 2 8 0x89).offset ≡ 0
+float64_altitude = refl
+
+-- a field of three bytes holds no 16-bit numbers
+odd_altitude : (meaning_of 2 3 0x84).offset ≡ 0
+odd_altitude = refl

@@ -1,5 +1,5 @@
 -- The blocks of bytes of the events of a chain of files. `docs/BLOCKS.md` has them as tables of offsets.
-use Rattle.std.specs.Prelude.{ℕ, ◌+◌, ◌-◌, ◌/◌, ◌%◌, ◌==◌, ◌&&◌, Bool, if◌then◌else◌, List, [], ◌∷◌, ◌++◌, length, map, flat_map, zip, sum_by, replicate}
+use Rattle.std.specs.Prelude.{ℕ, ◌+◌, ◌-◌, ◌/◌, ◌%◌, ◌==◌, ◌&&◌, Bool, nat_lt, if◌then◌else◌, List, [], ◌∷◌, ◌++◌, length, map, flat_map, zip, sum_by, replicate}
 use Rattle.std.specs.Prelude.{slice_index_or, slice_set, Option, Some, None, option_map, unwrap_or}
 use Rattle.std.specs.List.{list_any}
 use Rattle.fit_base.specs.declared.code.Class.{Class}
@@ -96,9 +96,30 @@ pub record Column : Type 0 where
 abbrev pub unnamed : Meaning
 unnamed = record { name = []; unit = []; scale = 1; offset = 0 }
 
+abbrev pub kind_of_class : Class → ℕ
+kind_of_class Unsigned = 0
+kind_of_class Signed = 1
+kind_of_class Float = 2
+kind_of_class Text = 3
+kind_of_class Bytes = 4
+
+-- what the items stand for: bytes where they have another width than the field's base type
+abbrev pub value_kind : ℕ → ℕ → ℕ
+value_kind code size = if item_width code size == (base_type code).width then kind_of_class (base_type code).class else 4
+
+-- Scale and offset are of whole numbers alone: an item of another kind stands for itself.
+abbrev pub scaled : ℕ → Meaning → Meaning
+scaled kind m = if nat_lt kind 2 then m else record { name = m.name; unit = m.unit; scale = 1; offset = 0 }
+
 abbrev pub column : ℕ → FieldDef → Column
-column global f =
-    record { number = f.number; developer = 0; index = 0; code = f.code; size = f.size; meaning = unwrap_or (field global f.number) unnamed }
+column global f = record {
+  number = f.number;
+  developer = 0;
+  index = 0;
+  code = f.code;
+  size = f.size;
+  meaning = scaled (value_kind f.code f.size) (unwrap_or (field global f.number) unnamed);
+}
 
 -- a developer field, with the base type code and the naming of its last description before the definition
 abbrev pub dev_column : DevDef → ℕ → Naming → Column
@@ -116,17 +137,6 @@ abbrev pub columns : {A : Type 0} → Defined A → List Naming → List Column
 columns p namings =
     map (column p.definition.global) p.definition.fields
     ++ map (λ x. dev_column x.0.0 x.0.1 x.1) (zip (zip (dev_defs p.definition.dev) p.dev_codes) namings)
-
-abbrev pub kind_of_class : Class → ℕ
-kind_of_class Unsigned = 0
-kind_of_class Signed = 1
-kind_of_class Float = 2
-kind_of_class Text = 3
-kind_of_class Bytes = 4
-
--- what the items stand for: bytes where they have another width than the field's base type
-abbrev pub value_kind : ℕ → ℕ → ℕ
-value_kind code size = if item_width code size == (base_type code).width then kind_of_class (base_type code).class else 4
 
 -- what a field is: number, developer field or not, index, base type code, kind of value, width and number of items, decimals
 abbrev pub kind_bytes : Column → List ℕ

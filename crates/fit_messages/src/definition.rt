@@ -54,6 +54,25 @@ fn value_kind(code: u8, size: u8) -> u8
     4
 }
 
+/// The same field, with scale and offset only where its items are whole numbers: others stand for themselves.
+fn scaled(column: Column<'_>) -> Column<'_>
+    requires { IsScale column.scale }
+    ensures same { said result ≡ record (said column.entry) {
+      meaning = blocks.scaled
+          (blocks.value_kind column.entry.code column.entry.size) (said column.entry).meaning;
+    } }
+    ensures scale { IsScale result.scale }
+{
+    if value_kind(column.code, column.size) < 2 {
+        return column;
+    }
+    Column {
+        scale: 1,
+        offset: 0,
+        ..column
+    }
+}
+
 /// A field of messages of this global number.
 fn field_column(global: u16, field: &FieldDef) -> Column<'static>
     ensures same { said result ≡ blocks.column global field.now }
@@ -63,7 +82,7 @@ fn field_column(global: u16, field: &FieldDef) -> Column<'static>
         Some(info) => (info.name, info.unit, info.scale, info.offset),
         None => ("", "", 1, 0),
     };
-    Column {
+    scaled(Column {
         number: field.number,
         developer: 0,
         index: 0,
@@ -73,7 +92,7 @@ fn field_column(global: u16, field: &FieldDef) -> Column<'static>
         unit,
         scale,
         offset,
-    }
+    })
 }
 
 /// A text, or an empty one where there is none.

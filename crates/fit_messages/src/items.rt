@@ -86,8 +86,8 @@ fn put_several(
     }
 }
 
-/// Adds the items of a field by its bytes to what is written in a sheet. One number is written with its zeros. Returns the place after
-/// them.
+/// Adds the items of a field by its bytes to what is written in a sheet. A field without bytes has none. One number is written with its
+/// zeros. Returns the place after them.
 #[inline(always)]
 fn add_read(
     bytes: &mut Vec<u8>,
@@ -105,6 +105,9 @@ fn add_read(
         ≡ with_sheet bytes.old.items sheet.old at
         ++ slot (field_from {A = Global} order (code, size) field.now)) }
 {
+    if size == 0 {
+        return Ok(at);
+    }
     if Code(code).width() == size {
         let at = make_room(bytes, sheet, at)?;
         return Ok(write_low(sheet, at, 8, bits_at(order, size, field)));

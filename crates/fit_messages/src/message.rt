@@ -208,6 +208,45 @@ fn add_items(
     Ok(at)
 }
 
+/// Whether the messages of a local message type have no bytes after their record header.
+#[inline(always)]
+fn are_empty(stream: &Stream, local: u8) -> bool
+    ensures { result ≡ true → (p : Defined Global)
+        → defined_at (known stream.now) local ≡ Some p → message_size p ≡ 0 }
+{
+    match stream.env().length(local) {
+        Some(length) => length == 0,
+        None => false,
+    }
+}
+
+/// Adds the items of a message that these bytes begin with. Where it has no bytes, its fields aren't gone through. Returns the place after
+/// them.
+#[inline(always)]
+fn add_any_items(
+    rest: &mut Vec<u8>,
+    sheet: &mut Sheet,
+    start: usize,
+    defined: &Defined,
+    is_empty: bool,
+    quick: bool,
+    bytes: &[u8],
+) -> Result<usize, AllocError>
+    requires place { start ≤ 72 }
+    requires sound { IsSound defined.now }
+    requires empty { is_empty ≡ true → message_size defined.now ≡ 0 }
+    requires within { message_size defined.now ≤ length bytes.now }
+    requires quick { quick ≡ true → IsQuick defined.now bytes.now }
+    ensures place { IfOk result (λ end. end ≤ 512) }
+    ensures text { IfOk result (λ end. with_sheet rest.new.items sheet.new end
+        ≡ with_sheet rest.old.items sheet.old start ++ slots_from defined.now bytes.now) }
+{
+    if is_empty {
+        return Ok(start);
+    }
+    add_items(rest, sheet, start, defined, quick, bytes)
+}
+
 /// Puts the block of a message of which this stands before its items, which these bytes begin with, by the definition that a stream has for
 /// its local message type. Where it is quick, each field but for developer fields is one number, and eight bytes more than those of the
 /// message are there. `rest` lends its memory.
@@ -236,8 +275,9 @@ pub(crate) fn put_message(
         unreachable!()
     };
     rest.clear();
+    let is_empty = are_empty(stream, head.local);
     let at = write_head(sheet, head);
-    let at = add_items(rest, sheet, at, defined, quick, bytes)?;
+    let at = add_any_items(rest, sheet, at, defined, is_empty, quick, bytes)?;
     put_block(text, rest, sheet, at)
 }
 

@@ -1,10 +1,11 @@
 use Rattle.std.proofs.Common.{◌∙◌, ◌++◌, ap, sym}
+use Rattle.std.proofs.lemmas.List.{append-nil}
 use Rattle.std.specs.Global.{Global}
 use Rattle.fit_base.proofs.ByteLists.{slice_is_bytes}
 use Rattle.fit_record.specs.ReadMessages.{field_from}
 use Rattle.fit_messages.specs.Blocks.{low, slot}
 use Rattle.fit_messages.specs.inner.Sheets.{with_sheet}
-use Rattle.fit_messages.proofs.ItemFacts.{slot_lone}
+use Rattle.fit_messages.proofs.ItemFacts.{slot_empty, slot_lone}
 use Rattle.fit_messages.proofs.SheetFacts.{more_written, none_written}
 use Rattle.fit_messages.proofs.items.add_read.Goals as goal
 
@@ -16,6 +17,11 @@ returns-then-width-size-clause-text c =
     ∙ ap (λ n. old ++ low 8 n) c.bits_at.ensures
     ∙ ap (λ b. old ++ b) (slot_lone c.args.order c.args.code c.args.size c.args.field.now (slice_is_bytes c.args.field.now c.type_inv.field) c.requires.length
     (sym c.width.ensures ∙ c.if-width-size.true))
+
+pub returns-then-size-eq0-clause-text : goal.returns-then-size-eq0-clause-text
+returns-then-size-eq0-clause-text c =
+    let old = with_sheet c.args.bytes.now.items c.args.sheet.now c.args.at in
+    sym (ap (λ b. old ++ b) (slot_empty c.args.order c.args.code c.args.size c.args.field.now c.if-size-eq0.true) ∙ append-nil old)
 
 pub returns-clause-text : goal.returns-clause-text
 returns-clause-text c =
