@@ -21,6 +21,16 @@ plain-left text n plain = subst (λ (l : List ℕ). HasPlainLines l) (sym (take_
 pub plain-after-line : (text left : List ℕ) → text ≡ 13 ∷ 10 ∷ left → HasPlainLines text → HasPlainLines left
 plain-after-line text left is plain = plain-drop 2 (13 ∷ 10 ∷ left) (subst (λ (l : List ℕ). HasPlainLines l) is plain)
 
+-- after a carriage return comes a line feed
+pub feed-after : (text : List ℕ) (i : ℕ) → HasPlainLines text → get_or text i 0 ≡ 13 → (i + 1 < length text) × (get_or text (i + 1) 0 ≡ 10)
+unfolding HasPlainLines
+feed-after [] i plain is = absurd (omega (arith, is))
+feed-after (c ∷ text) zero plain is = let (more, e) = plain.1 is in rw e (omega arith, refl)
+feed-after (c ∷ text) (suc i) plain is =
+    let h = feed-after text i plain.2 is in
+    let more : suc i + 1 ≡ suc (i + 1) = omega arith in
+    (omega (arith, h.0), rw more h.1)
+
 -- ---- how they begin
 
 pub quote-not-plain : (text rest : List ℕ) → text ≡ 34 ∷ rest → HasPlainLines text → ⊥

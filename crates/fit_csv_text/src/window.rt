@@ -3,7 +3,7 @@ ghost use Rattle.std.specs.Prelude.{◌≡◌, ◌++◌, ◌<◌, ◌≤◌, [],
 ghost use Rattle.csv.specs.Reading.{AreRecords, default_config};
 ghost use Rattle.csv.specs.declared.parser.State.TheVariants as st;
 ghost use Rattle.fit_cells.specs.Rows.{Row};
-ghost use Rattle.fit_csv_text.specs.Spellings.{EndsInReturn, HasPlainRows};
+ghost use Rattle.fit_csv_text.specs.Spellings.{EndsInReturn, HasPlainLines, HasPlainRows};
 
 use crate::loose::{Unspelled, spell_on};
 use std::alloc::{AllocError, Global};
@@ -79,16 +79,18 @@ fn is_loose(text: &[u8]) -> bool
     text[0] == b'"' && text[1] == b'd'
 }
 
-/// Whether a carriage return comes right before the first line feed.
+/// Whether a line feed comes right after the first carriage return, and none before it. It looks at no byte after these, so that a text
+/// whose rows end otherwise is not gone through for each of them.
 fn ends_in_return(text: &[u8]) -> bool
-    ensures { EndsInReturn text.now → IsTrue result }
+    ensures { HasPlainLines text.now → EndsInReturn text.now → IsTrue result }
 {
-    let mut before = 0;
-    for b in text {
+    for (place, b) in text.iter().enumerate() {
         if *b == b'\n' {
-            return before == b'\r';
+            return false;
         }
-        before = *b;
+        if *b == b'\r' {
+            return place + 1 < text.len() && text[place + 1] == b'\n';
+        }
     }
     false
 }
