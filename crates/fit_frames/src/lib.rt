@@ -8,7 +8,6 @@ mod pen;
 mod shown;
 
 pub use frames::exact::exact_items;
-pub use frames::likely::after;
 pub use frames::{Frame, put_tail, put_two};
 pub use items::ItemBytes;
 pub use pen::Pen;

@@ -1,5 +1,5 @@
 //! What is found out once of a definition, so that a stream takes in its data messages quickly, as records or by their bytes.
-ghost use Rattle.std.specs.Prelude.{◌≡◌, ◌==◌, ◌&&◌, ◌≤◌, ◌<◌, ◌+◌, ℕ, List, Option, IfSome, IsOk, OnOk, length, None, option_copied, slice_index_or, slice_set, Some, not};
+ghost use Rattle.std.specs.Prelude.{◌≡◌, ◌==◌, ◌&&◌, ◌≤◌, ◌<◌, ◌+◌, ℕ, List, Option, IfSome, IsOk, OnOk, length, max, None, option_copied, slice_index_or, slice_set, Some, not};
 ghost use Rattle.std.specs.List.{list_any};
 ghost use Rattle.fit_base.specs.BaseTypes.{base_type};
 ghost use Rattle.fit_base.specs.declared.number.Order.{Order};
@@ -132,6 +132,7 @@ fn fill(places: &mut Vec<Option<Plan>>) -> Result<(), AllocError>
     ensures same { (local : ℕ) → slice_index_or places.new.items local None
         ≡ slice_index_or places.old.items local None }
     ensures room { OnOk result (16 ≤ length places.new.items) }
+    ensures few { OnOk result (length places.new.items ≤ max 16 (length places.old.items)) }
 {
     if places.len() < 16 {
         places.resize(16, None)?;

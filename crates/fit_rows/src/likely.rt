@@ -1,8 +1,24 @@
 //! Guesses the record whose rows a text shows. Nothing is claimed of a guess: who takes it compares the text with the rows of the guess.
+ghost use Rattle.std.specs.Prelude.{◌≤◌, ◌+◌, IfSome, length};
+
 use fit_base::{Entries, Order};
-use fit_frames::after;
 use fit_record::{DevDef, FieldDef, MessageDef};
 use std::alloc::Global;
+
+/// How many bytes of a text are looked at for what ends a word or the first row of a message. No such is as long.
+const FRONT: usize = 64;
+
+/// What comes after the first byte of this kind in a text, where it is one of the first 64 bytes.
+pub(crate) fn after(text: &[u8], byte: u8) -> Option<&[u8]>
+    ensures { IfSome result (λ left. length text.now ≤ length left.now + FRONT) }
+{
+    let front = match text.get(..FRONT) {
+        Some(front) => front,
+        None => text,
+    };
+    let place = front.iter().position(|b| *b == byte)?;
+    text.get(place + 1..)
+}
 
 /// How many digits a number of the rows of a definition has at most.
 const MOST_DIGITS: usize = 5;

@@ -1,5 +1,7 @@
 //! Guesses the bytes of the value that a text shows. Nothing is claimed of a guess: who takes it compares the text with the rows of the
 //! guess.
+ghost use Rattle.std.specs.Prelude.{◌≤◌, ◌+◌, IfSome, OnOk, length};
+
 mod numbers;
 mod several;
 
@@ -29,7 +31,9 @@ fn likely_hexadecimal(digits: &[u8]) -> u64 {
 /// Puts the lowest bytes of a number after others, that many, of at most eight: by a copy of eight bytes, of which those after them are
 /// cut off.
 #[inline(always)]
-fn put_number(bytes: &mut Vec<u8>, order: Order, width: u8, bits: u64) -> Result<(), AllocError> {
+fn put_number(bytes: &mut Vec<u8>, order: Order, width: u8, bits: u64) -> Result<(), AllocError>
+    ensures { OnOk result (length bytes.new.items ≤ length bytes.old.items + width) }
+{
     let end = bytes.len().wrapping_add(width as usize);
     let eight = match order {
         Order::Little => bits.to_le_bytes(),
@@ -43,14 +47,18 @@ fn put_number(bytes: &mut Vec<u8>, order: Order, width: u8, bits: u64) -> Result
     Ok(())
 }
 
-/// What comes after the first byte of this kind in a text.
-pub fn after(text: &[u8], byte: u8) -> Option<&[u8]> {
-    let place = text.iter().position(|b| *b == byte)?;
-    text.get(place + 1..)
-}
-
 /// How many bytes of a text are looked at for one cell. The values of a field have at most 255 bytes, and their cell is shorter than this.
 const LONGEST: usize = 8192;
+
+/// The beginning of a text that is looked at for one cell.
+fn front_of(text: &[u8]) -> &[u8]
+    ensures { length result.now ≤ LONGEST }
+{
+    match text.get(..LONGEST) {
+        Some(front) => front,
+        None => text,
+    }
+}
 
 /// Puts what stands in quotes into `cell`, by a text after the first quote, and returns what comes after the last one.
 fn take_quoted<'a>(cell: &mut Vec<u8>, text: &'a [u8]) -> Option<&'a [u8]> {
@@ -69,7 +77,9 @@ fn take_quoted<'a>(cell: &mut Vec<u8>, text: &'a [u8]) -> Option<&'a [u8]> {
 }
 
 /// Puts the cell with which a text may begin into `cell`, without its quotes, and returns what comes after it.
-fn take_cell<'a>(cell: &mut Vec<u8>, text: &'a [u8]) -> Option<&'a [u8]> {
+fn take_cell<'a>(cell: &mut Vec<u8>, text: &'a [u8]) -> Option<&'a [u8]>
+    requires { length text.now ≤ LONGEST }
+{
     cell.clear();
     if let [b'"', quoted @ ..] = text {
         return take_quoted(cell, quoted);
@@ -127,8 +137,25 @@ impl Frame {
         Some(())
     }
 
-    /// Puts the bytes of the value that a text may show after others, and returns what comes after its cell, where the value isn't a lone
-    /// number of at most four bytes.
+    /// Puts the bytes of the value whose cell a text may begin with after others, and returns what comes after it.
+    fn likely_cell<'a>(
+        &self,
+        alloc: Global,
+        written: &mut Vec<u8>,
+        cell: &mut Vec<u8>,
+        order: Order,
+        bytes: &mut Vec<u8>,
+        text: &'a [u8],
+    ) -> Option<&'a [u8]> {
+        let front = front_of(text);
+        let rest = take_cell(cell, front)?;
+        let length = front.len().wrapping_sub(rest.len());
+        self.likely_in(alloc, written, cell.as_slice(), order, bytes)?;
+        text.get(length..)
+    }
+
+    /// Puts the bytes of the value that a text may show after others, as many as its field has at most, and returns what comes after its
+    /// cell, where the value isn't a lone number of at most four bytes.
     #[inline(never)]
     fn likely_rest<'a>(
         &self,
@@ -138,9 +165,13 @@ impl Frame {
         order: Order,
         bytes: &mut Vec<u8>,
         text: &'a [u8],
-    ) -> Option<&'a [u8]> {
+    ) -> Option<&'a [u8]>
+        ensures { IfSome result
+            (λ left. length bytes.new.items ≤ length bytes.old.items + self.now.size) }
+    {
         let start = bytes.len();
         let size = self.form.size;
+        let end = start.wrapping_add(size as usize);
         let found = match (self.form.several(), self.form.kind) {
             (Some(form), _) => likely_numbers(bytes, order, &form, size, text),
             (_, FieldKind::Float) => likely_float(bytes, order, size, text),
@@ -148,17 +179,17 @@ impl Frame {
             _ => None,
         };
         if found.is_some() {
+            bytes.truncate(end);
             return found;
         }
         bytes.truncate(start);
-        let front = text.get(..LONGEST).unwrap_or(text);
-        let rest = take_cell(cell, front)?;
-        let length = front.len().wrapping_sub(rest.len());
-        self.likely_in(alloc, written, cell.as_slice(), order, bytes)?;
-        text.get(length..)
+        let left = self.likely_cell(alloc, written, cell, order, bytes, text)?;
+        bytes.truncate(end);
+        Some(left)
     }
 
-    /// Puts the bytes of the value that a text may show after what stands before it after others, and returns what comes after its cell.
+    /// Puts the bytes of the value that a text may show after what stands before it after others, as many as its field has at most, and
+    /// returns what comes after its cell. It looks at 8,192 bytes for a cell, since no cell is as long.
     /// `written` and `cell` lend their memory; their texts are lost.
     pub fn likely<'a>(
         &self,
@@ -168,7 +199,10 @@ impl Frame {
         order: Order,
         bytes: &mut Vec<u8>,
         text: &'a [u8],
-    ) -> Option<&'a [u8]> {
+    ) -> Option<&'a [u8]>
+        ensures few { IfSome result
+            (λ left. length bytes.new.items ≤ length bytes.old.items + self.now.size) }
+    {
         let text = text.get(self.between.len()..)?;
         if let Some(form) = self.form.lone() {
             let (bits, length) = likely_number(&form, text)?;

@@ -1,7 +1,7 @@
 //! Guesses the bytes of the data message whose rows a text shows.
+use crate::likely::after;
 use crate::template::Template;
 use fit_base::Order;
-use fit_frames::after;
 use std::alloc::Global;
 
 /// The number of at most three digits with which a text may begin, where it does with a digit.
