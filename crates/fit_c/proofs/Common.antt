@@ -3,7 +3,7 @@ pub use Rattle.std.proofs.Common.{◌≡◌, inr, inl, true, false, Bool, ℕ, L
 pub use Rattle.std.specs.Prelude.{flat_map, is_ok, reverse, ◌⊎◌, IfErr, IfOk}
 pub use Rattle.std.specs.declared.alloc.Global.{Global}
 pub use Rattle.fit_chain.specs.Events.{file_events}
-pub use Rattle.fit_csv.specs.FromText.{FromText, FromTextOf, IsTextOf, ReadsText}
+pub use Rattle.fit_csv.specs.FromText.{Answers, FromTextOf, IsTextOf}
 pub use Rattle.fit_csv.specs.declared.fault.CsvFault.{CsvFault}
 pub use Rattle.fit_report.specs.Heard.{Lines, text_of}
 pub use Rattle.fit_report.specs.Reports.{Channel, ReportsChain, HasTold}

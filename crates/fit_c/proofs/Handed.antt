@@ -1,8 +1,7 @@
 -- What a text has that was handed over.
 use Rattle.fit_c.proofs.Common.{◌≡◌, inr, inl, true, false, Bool, ℕ, List, [], Option, Some, None, Result, Ok, Err, ◌++◌, refl, sym, ap, ◌∙◌, subst, flat_map}
-use Rattle.fit_c.proofs.Common.{is_ok, reverse, Global, file_events, Lines, text_of, Channel, ReportsChain, CsvFault, FromText, FromTextOf, IsTextOf, ReadsText}
+use Rattle.fit_c.proofs.Common.{is_ok, reverse, Global, file_events, Lines, text_of, Channel, ReportsChain, CsvFault, Answers, FromTextOf, IsTextOf}
 use Rattle.fit_c.proofs.Common.{IsTextUnlessNoMemory, conversion_answer, given, report_answer}
-use Rattle.std.proofs.lemmas.List.{append-nil}
 use Rattle.std.specs.Io.KnownBytes.{Appends}
 use Rattle.fit_record.specs.declared.file.FitFile.{FitFile}
 use Rattle.fit_report.specs.declared.fault.ReportFault.{ReportFault}
@@ -30,19 +29,12 @@ shown_chain line fs source sink (Err (reports.Write written)) items works none i
 
 -- ---- the bytes of a text, which are handed over where all was good
 
--- a text that was taken to its end is the whole text
-whole : (text taken left : List ℕ) → text ≡ taken ++ left → left ≡ [] → taken ≡ text
-whole text taken left joined none = let same : taken ++ left ≡ taken ++ [] = ap (λ l. taken ++ l) none in sym (joined ∙ same ∙ append-nil taken)
-
 module _ (sink : Channel) (good : Bool) (items : List ℕ) (none : sink.before ≡ Some []) (is : good ≡ true → Some items ≡ sink.after) where
-  pub text_good : (text left : List ℕ) (r : Result (Unit {0}) CsvFault) → good ≡ is_ok r → ReadsText (given text left) sink r → (conversion_answer r).status ≡ 0
+  pub text_good : (text : List ℕ) (r : Result (Unit {0}) CsvFault) → good ≡ is_ok r → Answers text (given text []) sink r → (conversion_answer r).status ≡ 0
       → (files : List (FitFile Global)) × IsTextOf text files items
-  text_good text left (Ok u) so (taken, joined, rest) zero =
-      let found : FromText taken sink = rest.1 in
-      let (files, bytes, of, more, fine) = found in
-      let all : IsTextOf text files bytes = subst (λ t. IsTextOf t files bytes) (whole text taken left joined rest.0.0) of in
-      (files, subst (IsTextOf text files) (sym (put sink.before sink.after items bytes none (is so) more)) all)
-  text_good text left (Err fault) so bad zero = absurd (conversion_bad fault zero)
+  text_good text (Ok u) so (out, (files, bytes, of, more, fine)) zero =
+      (files, subst (IsTextOf text files) (sym (put sink.before sink.after items bytes none (is so) more)) of)
+  text_good text (Err fault) so bad zero = absurd (conversion_bad fault zero)
 
   pub bytes_back : (bytes : List ℕ) (source : Channel) (r : Result (Unit {0}) CsvFault) → source.failed ≡ false → good ≡ is_ok r
       → FromTextOf bytes source sink r → IsTextUnlessNoMemory bytes (conversion_answer r) items

@@ -16,7 +16,7 @@ ghost use Rattle.fit_c.specs.Answers.{IsConverted, IsReported, IsTextRead, IsTex
 
 use crate::FitAnswer;
 use crate::answer::{answer_for_conversion, answer_for_report};
-use fit_csv::{ShowReport, from_csv, table, to_csv};
+use fit_csv::{ShowReport, from_csv_text, table, to_csv};
 use fit_encode::WriteSink;
 use fit_messages::MessagesReport;
 use fit_report::{Report, report};
@@ -138,9 +138,8 @@ pub extern "C" fn gazhdor_from_csv(
     ensures chain { (files : List (FitFile Global)) (b : List ℕ) → IsTextOf text.now files b
         → IsTextUnlessNoMemory b result bytes.new.now }
 {
-    let mut source = text;
     let mut sink = memory(alloc);
-    let answered = from_csv(alloc, &mut source, &mut sink);
+    let answered = from_csv_text(alloc, text, &mut sink);
     *bytes = handed_where(answered.is_ok(), sink);
     answer_for_conversion(answered)
 }

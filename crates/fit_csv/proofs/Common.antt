@@ -71,7 +71,7 @@ unfoldable pub use Rattle.fit_rows.specs.ChainRows.{records_rows}
 pub use Rattle.fit_rows.specs.EventTexts.{csv_line}
 pub use Rattle.fit_table.specs.EventTexts.{table_text}
 pub use Rattle.fit_csv.specs.Conversions.{Converts, ConvertsTo, HasWritten, RowsOf, WritesRows}
-pub use Rattle.fit_csv.specs.FromText.{Answers, FromTextOf, IsTextOf, IsUnwritable, ReadsText, IsWrong, FromText, IsReadOut, written_fault}
+pub use Rattle.fit_csv.specs.FromText.{Answers, FromTextOf, IsTextOf, IsUnwritable, ReadsText, IsWrong, FromText, IsReadOut, read_out, written_fault}
 pub use Rattle.fit_texts.specs.InstantText.{instant_text}
 pub use Rattle.fit_csv.specs.Judged.{Agree, IsBadCell, DevDefInRange, FieldDefInRange, IsFileOfRows, MayGoOn, RecordInRange, CanFollow, HasNoHeader}
 pub use Rattle.fit_csv.specs.Judged.{IsChainOfRows, IsCutOff, IsRefusedRow, DefinitionInRange, HeaderInRange, AreFilesOf, AreWhole, FirstRows, IsRowFault}

@@ -57,7 +57,7 @@ writable law whole text files bytes fault h (short, (others, (read, good, some),
     whole files fault h.chain.0 (subst (λ fs. IsFirstFault fs fault) same wrong)
 
 -- what the answer says, where the text that was taken is this one
-of-answer : ChainsHaveOwnRows → GoodChainsHaveNoFault Global → (text : List ℕ) (files : List (FitFile Global)) (bytes : List ℕ) (source sink : Channel)
+pub of-answer : ChainsHaveOwnRows → GoodChainsHaveNoFault Global → (text : List ℕ) (files : List (FitFile Global)) (bytes : List ℕ) (source sink : Channel)
     (result : Result (Unit {0}) CsvFault) → IsTextOf text files bytes → Answers text source sink result → FromTextOf bytes source sink result
 of-answer law whole text files bytes source sink (Ok u) h (out, (others, other_bytes, is, put, works)) =
     (subst (Appends sink.before sink.after) (same-bytes law text files others bytes other_bytes h is) put, works)

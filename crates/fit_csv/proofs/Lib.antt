@@ -33,3 +33,4 @@ mod Unwritten
 mod ReportTexts
 mod JudgedRows
 mod WholeRecords
+mod OpenFiles

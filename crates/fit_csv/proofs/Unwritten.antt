@@ -1,9 +1,9 @@
 -- Why files that rows gave aren't written.
-use Rattle.fit_csv.proofs.Common.{◌≡◌, ◌≤◌, ◌^◌, false, [], ◌∷◌, ◌++◌, length, Err, refl, subst, Global, AllByRecursion, Appends, FitFile}
+use Rattle.fit_csv.proofs.Common.{◌≡◌, ◌≤◌, ◌^◌, false, [], ◌∷◌, ◌++◌, length, Result, Err, refl, subst, inl, inr, Global, AllByRecursion, Appends, FitFile}
 use Rattle.fit_csv.proofs.Common.{empty_environment, learn_all, IsWellFormedChain, chain_bytes, chain_limit, AllFit, EncodeFault, AtFile, AtRecord}
-use Rattle.fit_csv.proofs.Common.{IfWrite, IsFirstFault, StopsAt, UnlessWrite, Channel, CsvFault, Answers, FromText, IsReadOut, IsTextOf, ReadsText}
+use Rattle.fit_csv.proofs.Common.{IfWrite, IsFirstFault, StopsAt, UnlessWrite, Channel, CsvFault, Answers, FromText, IsReadOut, IsTextOf, ReadsText, read_out}
 use Rattle.fit_csv.proofs.Common.{written_fault, AreFilesOf, IsFileOfRows, IsReadFault, IsTextFault}
-use Rattle.std.proofs.Common.{ℕ, List, Some}
+use Rattle.std.proofs.Common.{ℕ, List, Some, Ok}
 use Rattle.fit_record.specs.declared.fits.ShapeFault.{ShapeFault}
 use Rattle.fit_record.specs.Faults.{first_fault}
 use Rattle.fit_record.specs.Laws.{FaultsAreExact}
@@ -55,6 +55,15 @@ pub from-unread : (source sink : Channel) (fault : CsvFault) → IsReadFault sou
 from-unread source sink faults.Read h = h
 from-unread source sink faults.NoMemory h = h
 from-unread source sink fault h = absurd h.2
+
+-- a source gave a whole text, of which this was answered
+pub from-answers : (text : List ℕ) (source sink : Channel) (result : Result (Unit {0}) CsvFault) → IsReadOut source
+    → Answers text (read_out text) sink result → Answers text source sink result
+from-answers text source sink (Ok u) out h = (out, h.1)
+from-answers text source sink (Err faults.Read) out (inl failed) = cc
+from-answers text source sink (Err faults.Read) out (inr long) = inr long
+from-answers text source sink (Err faults.NoMemory) out h = out.1
+from-answers text source sink (Err fault) out h = (out, h.1)
 
 -- its rows aren't those of files
 pub from-judged : (text : List ℕ) (source sink : Channel) (fault : CsvFault) → length text ≤ 2 ^ 62 → IsReadOut source → IsTextFault text fault

@@ -1,5 +1,5 @@
 -- What `from_csv` answers and writes.
-use Rattle.std.specs.Prelude.{◌≡◌, ◌⊎◌, ◌<◌, ◌≤◌, ◌^◌, ℕ, true, false, List, Result, Ok, Err, length}
+use Rattle.std.specs.Prelude.{◌≡◌, ◌⊎◌, ◌<◌, ◌≤◌, ◌^◌, ℕ, true, false, List, [], Some, Result, Ok, Err, length}
 use Rattle.std.specs.Global.{Global}
 use Rattle.std.specs.Io.KnownBytes.{Appends, Consumes, IsAtEnd}
 use Rattle.fit_base.specs.Numbers.{IsBytes}
@@ -62,6 +62,10 @@ FromFault text sink fault = IsWrong text fault
 -- The source is at its end, and hasn't failed.
 abbrev pub IsReadOut : Channel → Type 0
 IsReadOut source = IsAtEnd source.after × (source.failed ≡ false)
+
+-- a text that was read to its end
+abbrev pub read_out : List ℕ → Channel
+read_out text = record { before = Some text; after = Some []; failed = false }
 
 -- What was answered after this text was taken. All answers but `Read` and `NoMemory` come after the whole input was taken. `Read`
 -- comes where the source failed, or where the text is too long.

@@ -3,10 +3,11 @@ ghost use Rattle.std.specs.Prelude.{◌≡◌, ℕ, List, IfErr, Some};
 ghost use Rattle.std.specs.Global.{Global};
 ghost use Rattle.fit_record.specs.declared.file.FitFile.{FitFile};
 ghost use Rattle.fit_report.specs.Reports.{channel};
-ghost use Rattle.fit_csv.specs.FromText.{FromTextOf, IsTextOf, ReadsText, UnlessWritten, written_fault};
+ghost use Rattle.fit_csv.specs.FromText.{Answers, FromTextOf, IsTextOf, ReadsText, UnlessWritten, read_out, written_fault};
 
 mod cells;
 mod chain;
+mod current_file;
 mod definition;
 mod fields;
 mod guess;
@@ -22,7 +23,7 @@ mod text;
 
 use crate::CsvFault;
 use crate::from::judge::judge;
-use crate::from::text::read_text;
+use crate::from::text::{MOST, read_text};
 use crate::laws::chains_have_own_rows;
 use fit_decode::Source;
 use fit_encode::laws::good_chains_have_no_fault;
@@ -42,19 +43,52 @@ fn from_fault(fault: EncodeFault) -> CsvFault
 }
 
 /// Writes the files whose rows are those of a text.
-fn convert<S: Source, K: Sink>(alloc: Global, source: &mut S, sink: &mut K) -> Result<(), CsvFault>
+fn convert<K: Sink>(alloc: Global, text: &[u8], sink: &mut K) -> Result<(), CsvFault>
+    ensures answers { Answers text.now (read_out text.now)
+        (channel K.contents K.has_failed sink.old sink.new) result }
+    ensures unchanged { IfErr result (λ fault. UnlessWritten fault (sink.new ≡ sink.old)) }
+{
+    faults_are_exact::<Global>();
+    if text.len() as u64 > MOST {
+        return Err(CsvFault::Read);
+    }
+    let files = judge(alloc, text)?;
+    match write_spelled(sink, &files) {
+        Ok(()) => Ok(()),
+        Err(fault) => Err(from_fault(fault)),
+    }
+}
+
+/// Writes CSV text that is in memory as a chain of FIT files, as `from_csv` does, and makes no copy of it. Its faults are those of
+/// `from_csv`; `Read` comes where the text has more than 2^62 bytes.
+pub fn from_csv_text<K: Sink>(alloc: Global, text: &[u8], sink: &mut K) -> Result<(), CsvFault>
+    // Its rows are those of a well-formed chain, whose bytes are written; or there is a fault.
+    ensures answers { Answers text.now (read_out text.now)
+        (channel K.contents K.has_failed sink.old sink.new) result }
+    ensures unchanged { IfErr result (λ fault. UnlessWritten fault (sink.new ≡ sink.old)) }
+    // Where the rows of the text are those of a chain, its bytes are written, unless memory is refused or the sink fails.
+    ensures chain { (files : List (FitFile Global)) (bytes : List ℕ) → IsTextOf text.now files bytes
+        → FromTextOf bytes (read_out text.now)
+        (channel K.contents K.has_failed sink.old sink.new) result }
+{
+    chains_have_own_rows();
+    good_chains_have_no_fault::<Global>();
+    convert(alloc, text, sink)
+}
+
+/// Reads a text, and writes the files whose rows are those of it.
+fn read_and_convert<S: Source, K: Sink>(
+    alloc: Global,
+    source: &mut S,
+    sink: &mut K,
+) -> Result<(), CsvFault>
     ensures reads { ReadsText
         (channel S.remaining S.has_failed source.old source.new)
         (channel K.contents K.has_failed sink.old sink.new) result }
     ensures unchanged { IfErr result (λ fault. UnlessWritten fault (sink.new ≡ sink.old)) }
 {
-    faults_are_exact::<Global>();
     let text = read_text(alloc, source)?;
-    let files = judge(alloc, text.as_slice())?;
-    match write_spelled(sink, &files) {
-        Ok(()) => Ok(()),
-        Err(fault) => Err(from_fault(fault)),
-    }
+    from_csv_text(alloc, text.as_slice(), sink)
 }
 
 /// Writes CSV text as a chain of FIT files. It reads the whole text, which may have 2^62 bytes, then
@@ -86,5 +120,5 @@ pub fn from_csv<S: Source, K: Sink>(
 {
     chains_have_own_rows();
     good_chains_have_no_fault::<Global>();
-    convert(alloc, source, sink)
+    read_and_convert(alloc, source, sink)
 }

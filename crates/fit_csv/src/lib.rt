@@ -12,4 +12,4 @@ pub use fit_cells::{
     cell_items, cell_text, next_row, put_cell, put_row, row_reader, row_writer, rows_text,
 };
 pub use fit_show::ShowReport;
-pub use from::from_csv;
+pub use from::{from_csv, from_csv_text};

@@ -2,24 +2,24 @@
 ghost use Rattle.std.specs.Prelude.{◌≡◌, ◌↔◌, IfErr, IsTrue, None, OnOk, Some, codes};
 ghost use Rattle.fit_csv.specs.declared.from.chain.Chain.{Chain};
 ghost use Rattle.fit_csv.specs.declared.from.open_file.OpenFile.{OpenFile};
+ghost use Rattle.fit_csv.specs.declared.from.open_file.Part.{Part};
 ghost use Rattle.fit_csv.specs.inner.Misfits.{IsMisfit};
 ghost use Rattle.fit_csv.specs.inner.Progress.{ChainStep, nothing_yet};
 ghost use Rattle.fit_csv.specs.inner.Seven.{row_of};
 ghost use Rattle.fit_csv.specs.inner.SoundChain.{IsSoundChain};
 
 use crate::from::cells::{Cells, ValueReader, same};
+use crate::from::current_file::CurrentFile;
 use crate::from::header::{file_end, file_header};
 use crate::from::misfit::Misfit;
-use crate::from::open_file::{OpenFile, Part};
-use fit_encode::{SpelledFiles, SpelledRecords};
-use fit_profile::Stream;
+use fit_encode::SpelledFiles;
 use std::alloc::Global;
 
 /// The files of a chain that are whole, and the one that isn't.
 #[derive(Drop)]
 pub(crate) struct Chain {
     pub files: SpelledFiles,
-    pub current: Option<OpenFile>,
+    pub current: CurrentFile,
 }
 
 impl Chain {
@@ -29,7 +29,7 @@ impl Chain {
     {
         Chain {
             files: SpelledFiles::new(alloc),
-            current: None,
+            current: CurrentFile::new(alloc),
         }
     }
 
@@ -48,12 +48,7 @@ impl Chain {
             return Err(Misfit::Kind);
         }
         let header = file_header(alloc, cells)?;
-        self.current = Some(OpenFile {
-            header,
-            records: SpelledRecords::new(alloc),
-            before: Stream::new(alloc),
-            part: Part::Nothing,
-        });
+        self.current.begin(alloc, header);
         Ok(())
     }
 
@@ -62,10 +57,9 @@ impl Chain {
         ensures { IsTrue result ↔ ((f : OpenFile) × (self.now.current ≡ Some f)
             × (f.part ≡ Part.Nothing) × (cells.now.kind.now ≡ codes "end")) }
     {
-        match &self.current {
-            Some(file) => file.is_between_records() && same(cells.kind, b"end"),
-            None => false,
-        }
+        self.current.is_open
+            && self.current.file.is_between_records()
+            && same(cells.kind, b"end")
     }
 
     /// Takes the row in which the current file ends.
@@ -78,11 +72,9 @@ impl Chain {
             (row_of cells.now)) }
     {
         file_end(cells)?;
-        let Some(file) = &mut self.current else {
-            return Err(Misfit::Kind);
-        };
+        let file = &mut self.current.file;
         self.files.push(&file.header, &mut file.records)?;
-        self.current = None;
+        self.current.is_open = false;
         Ok(())
     }
 
@@ -96,9 +88,9 @@ impl Chain {
         if self.may_end(cells) {
             return self.end_file(cells);
         }
-        match &mut self.current {
-            Some(file) => file.take_row(reader, cells),
-            None => self.begin_file(reader.alloc, cells),
+        if self.current.is_none() {
+            return self.begin_file(reader.alloc, cells);
         }
+        self.current.file.take_row(reader, cells)
     }
 }

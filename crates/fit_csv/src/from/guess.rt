@@ -113,8 +113,8 @@ pub(crate) fn take_record<'a>(
         TakesRows text.now p.1.now p.0 chain.old chain.new)) }
     ensures same { IfOk result (λ found. IsNone found → chain.new ≡ chain.old) }
 {
-    match &mut chain.current {
-        Some(file) => take_whole(file, reader, text),
-        None => Ok(None),
+    if chain.current.is_none() {
+        return Ok(None);
     }
+    take_whole(&mut chain.current.file, reader, text)
 }

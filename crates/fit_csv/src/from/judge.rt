@@ -80,7 +80,7 @@ fn check_end(chain: &Chain, rows: u64) -> Result<(), CsvFault>
     ensures err { IfErr result (λ fault. (fault ≡ CsvFault.BadRow (rows + 1))
         × (chain.now.current ≡ None → 0 < length chain.now.files → ⊥)) }
 {
-    if chain.current.is_some() {
+    if !chain.current.is_none() {
         return Err(CsvFault::BadRow { row: rows + 1 });
     }
     if chain.files.is_empty() {

@@ -8,7 +8,7 @@ use fit_decode::{PIECE_SIZE, Source};
 use std::alloc::Global;
 
 /// The most bytes of a text.
-const MOST: u64 = 0x4000_0000_0000_0000;
+pub(crate) const MOST: u64 = 0x4000_0000_0000_0000;
 
 /// The bytes of a source to its end, of which there may be 2^62.
 pub(crate) fn read_text<S: Source>(alloc: Global, source: &mut S) -> Result<Vec<u8>, CsvFault>
