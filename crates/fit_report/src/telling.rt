@@ -1,6 +1,7 @@
 //! Tells the events of a chain's bytes to a reporter, piece by piece, and puts its text in a sink.
-ghost use Rattle.std.specs.Prelude.{◌≡◌, ◌↔◌, ◌++◌, ℕ, ◌<◌, ◌≤◌, [], List, false, IfOk, IsErr, IsOk, OnErr, OnOk, Option, None, Err, length, reverse};
+ghost use Rattle.std.specs.Prelude.{◌≡◌, ◌↔◌, ◌++◌, ℕ, ◌<◌, ◌≤◌, [], List, false, IfOk, IsErr, IsOk, OnErr, OnOk, Option, None, Some, Err, length, reverse, vec_capacity};
 ghost use Rattle.std.specs.Global.{Global};
+ghost use Rattle.fit_frame.specs.declared.reason.Reason.{Reason};
 ghost use Rattle.fit_record.specs.declared.file.FitFile.{FitFile};
 ghost use Rattle.fit_record.specs.Files.{chain_limit, IsViable};
 ghost use Rattle.fit_chain.specs.Checks.{AreChain};
@@ -18,6 +19,14 @@ use fit_decode::{Decoder, Event, Fault, Fed};
 use fit_encode::{Sink, put_all};
 use std::alloc::{AllocError, Global};
 use std::marker::Model;
+
+/// The memory of text that is kept from piece to piece, in bytes. A message of one byte may have a text of 275,163 bytes, so a piece
+/// may make any number of megabytes.
+const KEPT_TEXT: usize = 65_536;
+
+/// What is skipped is put as soon as its text has that many bytes: a vector that grows takes twice its length at most, so the memory
+/// for texts that are no longer than this is kept.
+const FULL_TEXT: usize = KEPT_TEXT / 2;
 
 /// What tells the events of a chain's bytes to a reporter as they come, in pieces of any length, and puts its text in a sink. It
 /// is the same reporter in each call, and has heard nothing at first; the sink may be another one in each call.
@@ -42,15 +51,15 @@ impl Drop for Telling {
 }
 
 impl Model for Telling {
-    ghost use Rattle.std.specs.Global.{Global};
-    ghost use Rattle.fit_record.specs.Files.{chain_limit, IsViable};
+    ghost use Rattle.std.specs.Prelude.{vec_capacity};
+    ghost use Rattle.fit_report.specs.inner.Passing.{IsSoundTelling};
     ghost use Rattle.fit_report.specs.Telling.{ToldSoFar};
 
     ghost Value = { ToldSoFar };
 
     ghost view = { λ t. record { seen = t.decoder; written = t.written } };
 
-    ghost invariant = { λ t. IsViable Global chain_limit t.decoder.bytes };
+    ghost invariant = { λ t. IsSoundTelling t.decoder.bytes (vec_capacity t.text) };
 }
 
 impl Telling {
@@ -93,31 +102,37 @@ impl Telling {
             (K.has_failed sink.old ≡ false → K.has_failed sink.new ≡ false) }
         ensures viable { IsViable Global chain_limit self.new.seen.bytes }
     {
-        tell_piece(
+        let told = tell_piece(
             &mut self.decoder,
             reporter,
             sink,
             &mut self.text,
             &mut self.written,
             piece,
-        )
+        );
+        let_go(&mut self.text);
+        told
     }
 
-    /// Whether the bytes fed are a chain of files. Where they only begin one, `Truncated` has the number of the bytes.
+    /// Whether the bytes fed are a chain of files. Where they only begin one, `Truncated` has the number of the bytes;
+    /// after a refusal it is returned again.
     pub fn finish(&self) -> Result<(), Fault>
         ensures good { IsOk result ↔
             ((self.now.seen.refusal ≡ None) × AreChain Global self.now.seen.bytes) }
         ensures truncated { self.now.seen.refusal ≡ None → IsErr result
             → result ≡ Err (Fault.Truncated (length self.now.seen.bytes)) }
+        ensures refused { (reason : Reason) → self.now.seen.refusal ≡ Some reason
+            → result ≡ Err (Fault.Refused (length self.now.seen.bytes) reason) }
     {
         self.decoder.finish()
     }
 
-    /// How many files have ended.
+    /// How many files have ended; after a refusal 0.
     pub fn files(&self) -> u64
         // They are those that are whole in the bytes fed.
-        ensures { self.now.seen.refusal ≡ None → (fs : List (FitFile Global))
+        ensures files { self.now.seen.refusal ≡ None → (fs : List (FitFile Global))
             (g : Progress Global) → HasCome fs g self.now.seen.bytes → result ≡ length fs }
+        ensures refused { (reason : Reason) → self.now.seen.refusal ≡ Some reason → result ≡ 0 }
     {
         self.decoder.files()
     }
@@ -140,8 +155,18 @@ fn put_text<K: Sink>(sink: &mut K, text: &[u8], written: &mut u64) -> Result<(),
     }
 }
 
-/// Skips at the front of a piece, again and again until a skip uses nothing, and puts the text after the old text. Returns how
-/// many bytes were used.
+/// Lets the memory of a text go, where it is more than what is kept.
+fn let_go(text: &mut Vec<u8>)
+    ensures { vec_capacity text.new ≤ 65536 }
+{
+    if text.capacity() > KEPT_TEXT {
+        text.clear();
+        text.shrink_to_fit();
+    }
+}
+
+/// Skips at the front of a piece, again and again until a skip uses nothing or the text is full, and puts the text after the old
+/// text. Returns how many bytes were used.
 fn skip_all<R: Report>(
     decoder: &mut Decoder,
     reporter: &mut R,
@@ -161,13 +186,13 @@ fn skip_all<R: Report>(
         let (_, rest) = piece.split_at(at);
         let used = reporter.skip(decoder, rest, text)?;
         at += used;
-        if used == 0 {
+        if used == 0 || text.len() >= FULL_TEXT {
             return Ok(at);
         }
     }
 }
 
-/// Skips what the reporter skips at the front of a piece, and puts its text. Returns how many bytes were used.
+/// Skips what the reporter skips at the front of a piece, up to a full text, and puts its text. Returns how many bytes were used.
 fn tell_skipped<K: Sink, R: Report>(
     decoder: &mut Decoder,
     reporter: &mut R,
@@ -271,7 +296,11 @@ fn tell_piece<K: Sink, R: Report>(
     let mut at = 0;
     while at < piece.len() {
         let (_, rest) = piece.split_at(at);
-        at += tell_skipped(decoder, reporter, sink, text, written, rest)?;
+        let skipped = tell_skipped(decoder, reporter, sink, text, written, rest)?;
+        at += skipped;
+        if skipped > 0 && text.len() >= FULL_TEXT {
+            continue;
+        }
         let (_, rest) = piece.split_at(at);
         at += tell_next(decoder, reporter, sink, text, written, rest)?;
     }

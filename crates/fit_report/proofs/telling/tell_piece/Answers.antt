@@ -6,44 +6,44 @@ use Rattle.fit_report.proofs.Pieces.{within_after, fed_after, stops_after}
 use Rattle.fit_report.proofs.Skipped.{fed_so}
 use Rattle.fit_report.proofs.telling.tell_piece.Goals as goal
 
-pub returns-in_err-at-clause-passes : goal.returns-in_err-at-clause-passes
-returns-in_err-at-clause-passes g c =
+pub returns-in_err-skipped-clause-passes : goal.returns-in_err-skipped-clause-passes
+returns-in_err-skipped-clause-passes g c =
     let p = err_from_is_err_and c.from_residual.result c.from_residual.ensures.1 in
     let i = c.loop-at.invariant in
     rw (p.1, p.2) (λ told start s.
     stops_after g.R.Report.has_heard g.R.Report.line c.args.decoder.now c.loop-at.decoder told c.args.piece.now c.split_at.result.1.now c.loop-at.at
     c.tell_skipped.new.reporter (record (channel g.K.Sink.contents g.K.Sink.has_failed c.args.sink.now c.tell_skipped.new.sink) { before = start })
-    i.within i.is_fed c.split_at.ensures.back c.in_err-at.field-0.0 (c.in_err-at.ensures.passes told start (i.stands told start s)))
+    i.within i.is_fed c.split_at.ensures.back c.in_err-skipped.field-0.0 (c.in_err-skipped.ensures.passes told start (i.stands told start s)))
 
-pub returns-in_err-at-2-clause-passes : goal.returns-in_err-at-2-clause-passes
-returns-in_err-at-2-clause-passes g c =
-    let p = err_from_is_err_and c.from_residual-in_err-at-2.result c.from_residual-in_err-at-2.ensures.1 in
+pub returns-in_err-at-clause-passes : goal.returns-in_err-at-clause-passes
+returns-in_err-at-clause-passes g c =
+    let p = err_from_is_err_and c.from_residual-in_err-at.result c.from_residual-in_err-at.ensures.1 in
     let i = c.loop-at.invariant in
     let piece = c.args.piece.now in
-    let used = c.in_ok-at.ensures.used in
+    let used = c.in_ok-skipped.ensures.used in
     rw (p.1, p.2) (λ told start s.
     stops_after g.R.Report.has_heard g.R.Report.line c.args.decoder.now c.tell_skipped.new.decoder told piece c.split_at-in-loop-at.result.1.now
-    (c.loop-at.at + c.in_ok-at.field-0) c.tell_next.new.reporter
+    (c.loop-at.at + c.in_ok-skipped.skipped) c.tell_next.new.reporter
     (record (channel g.K.Sink.contents g.K.Sink.has_failed c.args.sink.now c.tell_next.new.sink) { before = start })
-    (within_after piece c.split_at.result.1.now c.loop-at.at c.in_ok-at.field-0 i.within c.split_at.ensures.back used.0)
-    (fed_after c.args.decoder.now c.loop-at.decoder c.tell_skipped.new.decoder piece c.split_at.result.1.now c.loop-at.at c.in_ok-at.field-0 i.is_fed
+    (within_after piece c.split_at.result.1.now c.loop-at.at c.in_ok-skipped.skipped i.within c.split_at.ensures.back used.0)
+    (fed_after c.args.decoder.now c.loop-at.decoder c.tell_skipped.new.decoder piece c.split_at.result.1.now c.loop-at.at c.in_ok-skipped.skipped i.is_fed
     c.split_at.ensures.back used.1)
-    c.split_at-in-loop-at.ensures.back c.in_err-at-2.field-0.0 (c.in_err-at-2.ensures.passes told start (c.in_ok-at.ensures.passes told start (i.stands
+    c.split_at-in-loop-at.ensures.back c.in_err-at.field-0.0 (c.in_err-at.ensures.passes told start (c.in_ok-skipped.ensures.passes told start (i.stands
     told start s))))
 
 pub loop-at-preserved : goal.loop-at-preserved
 loop-at-preserved g c =
     let i = c.loop-at.invariant in
     let piece = c.args.piece.now in
-    let skipped = c.in_ok-at.ensures in
-    let told = c.in_ok-at-2.ensures in
-    let at = c.loop-at.at + c.in_ok-at.field-0 in
+    let skipped = c.in_ok-skipped.ensures in
+    let told = c.in_ok-at.ensures in
+    let at = c.loop-at.at + c.in_ok-skipped.skipped in
     record {
-      within = within_after piece c.split_at-in-loop-at.result.1.now at c.in_ok-at-2.field-0
-          (within_after piece c.split_at.result.1.now c.loop-at.at c.in_ok-at.field-0 i.within c.split_at.ensures.back skipped.used.0)
+      within = within_after piece c.split_at-in-loop-at.result.1.now at c.in_ok-at.field-0
+          (within_after piece c.split_at.result.1.now c.loop-at.at c.in_ok-skipped.skipped i.within c.split_at.ensures.back skipped.used.0)
           c.split_at-in-loop-at.ensures.back told.used.0;
-      is_fed = fed_after c.args.decoder.now c.tell_skipped.new.decoder c.tell_next.new.decoder piece c.split_at-in-loop-at.result.1.now at c.in_ok-at-2.field-0
-          (fed_after c.args.decoder.now c.loop-at.decoder c.tell_skipped.new.decoder piece c.split_at.result.1.now c.loop-at.at c.in_ok-at.field-0 i.is_fed
+      is_fed = fed_after c.args.decoder.now c.tell_skipped.new.decoder c.tell_next.new.decoder piece c.split_at-in-loop-at.result.1.now at c.in_ok-at.field-0
+          (fed_after c.args.decoder.now c.loop-at.decoder c.tell_skipped.new.decoder piece c.split_at.result.1.now c.loop-at.at c.in_ok-skipped.skipped i.is_fed
           c.split_at.ensures.back skipped.used.1)
           c.split_at-in-loop-at.ensures.back told.used.1;
       stands = λ text start s. told.passes text start (skipped.passes text start (i.stands text start s));
@@ -51,10 +51,24 @@ loop-at-preserved g c =
       viable = told.viable;
     }
 
+pub loop-at-preserved-then-len-ge-FULL_TEXT : goal.loop-at-preserved-then-len-ge-FULL_TEXT
+loop-at-preserved-then-len-ge-FULL_TEXT g c =
+    let i = c.loop-at.invariant in
+    let piece = c.args.piece.now in
+    let skipped = c.in_ok-skipped.ensures in
+    record {
+      within = within_after piece c.split_at.result.1.now c.loop-at.at c.in_ok-skipped.skipped i.within c.split_at.ensures.back skipped.used.0;
+      is_fed = fed_after c.args.decoder.now c.loop-at.decoder c.tell_skipped.new.decoder piece c.split_at.result.1.now c.loop-at.at
+          c.in_ok-skipped.skipped i.is_fed c.split_at.ensures.back skipped.used.1;
+      stands = λ text start s. skipped.passes text start (i.stands text start s);
+      works = λ good. skipped.works (i.works good);
+      viable = skipped.viable;
+    }
+
 pub tell_next-requires-clause-told : goal.tell_next-requires-clause-told
 tell_next-requires-clause-told g c =
     let (text, start, s) = c.requires.told in
-    (text, start, c.in_ok-at.ensures.passes text start (c.loop-at.invariant.stands text start s))
+    (text, start, c.in_ok-skipped.ensures.passes text start (c.loop-at.invariant.stands text start s))
 
 pub loop-at-init : goal.loop-at-init
 loop-at-init g c =
@@ -74,7 +88,7 @@ pub tell_skipped-requires-clause-told : goal.tell_skipped-requires-clause-told
 tell_skipped-requires-clause-told g c = let (text, start, s) = c.requires.told in (text, start, c.loop-at.invariant.stands text start s)
 
 pub tell_next-requires-clause-fresh : goal.tell_next-requires-clause-fresh
-tell_next-requires-clause-fresh g c = ap (λ (v : Seen). v.refusal) c.in_ok-at.ensures.used.1
+tell_next-requires-clause-fresh g c = ap (λ (v : Seen). v.refusal) c.in_ok-skipped.ensures.used.1
 
 pub returns-clause-all : goal.returns-clause-all
 returns-clause-all g c =
@@ -84,17 +98,17 @@ returns-clause-all g c =
 pub returns-clause-passes : goal.returns-clause-passes
 returns-clause-passes g c = c.loop-at.invariant.stands
 
-pub returns-in_err-at-clause-all : goal.returns-in_err-at-clause-all
-returns-in_err-at-clause-all g c = IfOk-from_err c.from_residual.result _ c.from_residual.ensures.0
+pub returns-in_err-skipped-clause-all : goal.returns-in_err-skipped-clause-all
+returns-in_err-skipped-clause-all g c = IfOk-from_err c.from_residual.result _ c.from_residual.ensures.0
 
-pub returns-in_err-at-2-clause-all : goal.returns-in_err-at-2-clause-all
-returns-in_err-at-2-clause-all g c = IfOk-from_err c.from_residual-in_err-at-2.result _ c.from_residual-in_err-at-2.ensures.0
+pub returns-in_err-at-clause-all : goal.returns-in_err-at-clause-all
+returns-in_err-at-clause-all g c = IfOk-from_err c.from_residual-in_err-at.result _ c.from_residual-in_err-at.ensures.0
+
+pub returns-in_err-skipped-clause-works : goal.returns-in_err-skipped-clause-works
+returns-in_err-skipped-clause-works g c = IfOk-from_err c.from_residual.result _ c.from_residual.ensures.0
 
 pub returns-in_err-at-clause-works : goal.returns-in_err-at-clause-works
-returns-in_err-at-clause-works g c = IfOk-from_err c.from_residual.result _ c.from_residual.ensures.0
-
-pub returns-in_err-at-2-clause-works : goal.returns-in_err-at-2-clause-works
-returns-in_err-at-2-clause-works g c = IfOk-from_err c.from_residual-in_err-at-2.result _ c.from_residual-in_err-at-2.ensures.0
+returns-in_err-at-clause-works g c = IfOk-from_err c.from_residual-in_err-at.result _ c.from_residual-in_err-at.ensures.0
 
 pub returns-clause-viable : goal.returns-clause-viable
 returns-clause-viable g c = c.loop-at.invariant.viable
@@ -102,19 +116,19 @@ returns-clause-viable g c = c.loop-at.invariant.viable
 pub returns-clause-works : goal.returns-clause-works
 returns-clause-works g c = c.loop-at.invariant.works
 
-pub returns-in_err-at-clause-viable : goal.returns-in_err-at-clause-viable
-returns-in_err-at-clause-viable g c = c.tell_skipped.ensures.viable
+pub returns-in_err-skipped-clause-viable : goal.returns-in_err-skipped-clause-viable
+returns-in_err-skipped-clause-viable g c = c.tell_skipped.ensures.viable
 
-pub returns-in_err-at-2-clause-viable : goal.returns-in_err-at-2-clause-viable
-returns-in_err-at-2-clause-viable g c = c.tell_next.ensures.viable
+pub returns-in_err-at-clause-viable : goal.returns-in_err-at-clause-viable
+returns-in_err-at-clause-viable g c = c.tell_next.ensures.viable
 
 pub split_at-requires : goal.split_at-requires
 split_at-requires g c = c.loop-at.invariant.within
 
 pub split_at-requires-in-loop-at : goal.split_at-requires-in-loop-at
 split_at-requires-in-loop-at g c =
-    within_after c.args.piece.now c.split_at.result.1.now c.loop-at.at c.in_ok-at.field-0 c.loop-at.invariant.within c.split_at.ensures.back
-    c.in_ok-at.ensures.used.0
+    within_after c.args.piece.now c.split_at.result.1.now c.loop-at.at c.in_ok-skipped.skipped c.loop-at.invariant.within c.split_at.ensures.back
+    c.in_ok-skipped.ensures.used.0
 
 pub tell_skipped-requires-clause-viable : goal.tell_skipped-requires-clause-viable
 tell_skipped-requires-clause-viable g c = c.loop-at.invariant.viable
