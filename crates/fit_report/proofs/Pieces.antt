@@ -1,10 +1,11 @@
 -- Where the telling of a piece has stopped.
-use Rattle.fit_report.proofs.Common.{◌≡◌, ℕ, ◌+◌, ◌≤◌, List, ◌++◌, length, take, drop, get_or, reverse, Option, Err, refl, sym, ap, ◌∙◌, subst, arith}
+use Rattle.fit_report.proofs.Common.{◌≡◌, ℕ, ◌+◌, ◌≤◌, List, ◌++◌, length, take, drop, get_or, reverse, Option, Some, Err, refl, sym, ap, ◌∙◌, subst, arith}
 use Rattle.fit_report.proofs.Common.{[], length-append, append_assoc, take-append-drop}
 use Rattle.std.proofs.lemmas.List.{drop-drop}
 use Rattle.fit_report.proofs.Common.{append-nil, length-drop, length-take, get_or-drop, Fault, Seen, fed, Refuses, Event, AreEvents, IsRefused, chain_limit}
 use Rattle.fit_report.proofs.Common.{IsViable}
-use Rattle.fit_report.proofs.Common.{ReportFault, Decode, NoMemory, Write, Lines, Channel, HasHeard, report_fault, Stands, Stops, fed_on, quiet_for}
+use Rattle.fit_report.proofs.Common.{ReportFault, Decode, NoMemory, Write, Lines, Channel, HasHeard, report_fault, Stands, Stops, Puts, fed_on, quiet_for}
+use Rattle.fit_report.specs.Telling.{KeepsRefusal}
 use Rattle.fit_frame.specs.declared.reason.Reason.{Reason}
 use Rattle.fit_chain.specs.declared.event.Fault.TheVariants as faults
 use Rattle.fit_chain.specs.Memory.{IsAny, MayLackMemoryIn}
@@ -56,6 +57,21 @@ module _ {A R : Type 0} {has_heard : R → List (Event A) → Type 0} {line : Li
       stops_before reporter (lacks_for_byte IsAny old.bytes piece used wants.within wants.next wants.takes)
   stops new (faults.Truncated place) t = absurd ((t.others place).0 refl)
   stops new (faults.Read place) t = absurd ((t.others place).1 refl)
+
+-- What a decoder keeps is what a telling keeps.
+pub keeps : (A : Type 0) (old : Seen) (piece : List ℕ) (new : Seen) (fault : Fault) → Stopped A old piece new fault
+    → KeepsRefusal old.bytes piece new (report_fault fault)
+keeps A old piece new (faults.Refused place reason) t = let r = t.refused place reason refl in (r.used, r.is_place, r.after)
+keeps A old piece new (faults.NoMemory used) t = tt
+keeps A old piece new (faults.Truncated place) t = tt
+keeps A old piece new (faults.Read place) t = tt
+
+-- The putting of a text refuses no byte.
+pub keeps_none : (bytes piece : List ℕ) (seen : Seen) (text : List ℕ) (sink : Channel) (old new : ℕ) (fault : ReportFault) → Puts text sink old new (Err fault)
+    → KeepsRefusal bytes piece seen fault
+keeps_none bytes piece seen text sink old new (Decode fault) none = absurd none
+keeps_none bytes piece seen text sink old new NoMemory none = absurd none
+keeps_none bytes piece seen text sink old new (Write count) puts = tt
 
 -- ---- what is left of a piece
 
@@ -116,3 +132,15 @@ module _ {A R : Type 0} (has_heard : R → List (Event A) → Type 0) (line : Li
     put,
     counted,
   )
+
+  pub keeps_after : (new : Seen) (fault : ReportFault) → KeepsRefusal mid.bytes rest new fault → KeepsRefusal old.bytes piece new fault
+  keeps_after new (Decode (faults.Refused place reason)) (k, stands, seen) = (
+    at + k,
+    omega (arith, stands, ap (λ (v : Seen). length v.bytes) is, length-append old.bytes (take at piece), length-take at piece, within),
+    seen ∙ ap (λ (b : List ℕ). record { bytes = b; refusal = Some reason }) (joined k),
+  )
+  keeps_after new (Decode (faults.Truncated place)) kept = tt
+  keeps_after new (Decode (faults.NoMemory used)) kept = tt
+  keeps_after new (Decode (faults.Read place)) kept = tt
+  keeps_after new NoMemory kept = tt
+  keeps_after new (Write count) kept = tt

@@ -1,5 +1,5 @@
 -- What the telling of a chain's bytes does, piece by piece.
-use Rattle.std.specs.Prelude.{◌≡◌, ℕ, ◌+◌, ◌-◌, ◌^◌, ◌<◌, min, true, List, ◌++◌, Option, Result, Ok, Err, take, drop, length, reverse, slice_index}
+use Rattle.std.specs.Prelude.{◌≡◌, ℕ, ◌+◌, ◌-◌, ◌^◌, ◌<◌, min, true, List, ◌++◌, Option, Some, Result, Ok, Err, take, drop, length, reverse, slice_index}
 use Rattle.std.specs.Io.KnownBytes.{Appends}
 use Rattle.fit_record.specs.Files.{chain_limit, IsViable}
 use Rattle.fit_chain.specs.declared.event.Fault.TheVariants.{Refused}
@@ -48,6 +48,12 @@ Stops {A} has_heard line bytes told piece reporter sink (Write count) =
     (k : ℕ) × (heard : List (Event A)) × IsViable A chain_limit (bytes ++ take k piece) × AreEvents (bytes ++ take k piece) (reverse heard)
     × (text : List ℕ) × (text_of line heard ≡ told ++ text) × (sink.failed ≡ true) × (n : ℕ) × (n < length text)
     × Appends sink.before sink.after (take n text) × (count ≡ min (length told + n) (2 ^ 64 - 1))
+
+-- What is kept where a byte of a piece after these bytes is refused: the bytes before it, and the reason.
+abbrev pub KeepsRefusal : List ℕ → List ℕ → Seen → ReportFault → Type 0
+KeepsRefusal bytes piece seen (Decode (Refused place reason)) =
+    (k : ℕ) × (place ≡ length bytes + k) × (seen ≡ record { bytes = bytes ++ take k piece; refusal = Some reason })
+KeepsRefusal bytes piece seen fault = Unit {0}
 
 -- What a call told that feeds some of a piece after these bytes, so that more bytes are fed then: whatever was told before it, and
 -- wherever the sink began, it has told the events up to there, or has stopped.

@@ -1,5 +1,5 @@
 //! Tells the events of a chain's bytes to a reporter, piece by piece, and puts its text in a sink.
-ghost use Rattle.std.specs.Prelude.{◌≡◌, ◌↔◌, ◌++◌, ℕ, ◌<◌, ◌≤◌, [], List, false, IfOk, IsErr, IsOk, OnErr, OnOk, Option, None, Some, Err, length, reverse, vec_capacity};
+ghost use Rattle.std.specs.Prelude.{◌≡◌, ◌↔◌, ◌++◌, ℕ, ◌<◌, ◌≤◌, [], List, false, IfErr, IfOk, IsErr, IsOk, OnErr, OnOk, Option, None, Some, Err, length, reverse, vec_capacity};
 ghost use Rattle.std.specs.Global.{Global};
 ghost use Rattle.fit_frame.specs.declared.reason.Reason.{Reason};
 ghost use Rattle.fit_record.specs.declared.file.FitFile.{FitFile};
@@ -11,7 +11,7 @@ ghost use Rattle.fit_chain.specs.Progress.{HasCome, Progress};
 ghost use Rattle.fit_decode.specs.Answers.{fed};
 ghost use Rattle.fit_report.specs.Heard.{AreHeard, Skips, hear, line_of};
 ghost use Rattle.fit_report.specs.Reports.{channel};
-ghost use Rattle.fit_report.specs.Telling.{Passes, Stands};
+ghost use Rattle.fit_report.specs.Telling.{KeepsRefusal, Passes, Stands};
 ghost use Rattle.fit_report.specs.inner.Passing.{Puts};
 
 use crate::{Report, ReportFault};
@@ -97,6 +97,7 @@ impl Telling {
             self.old.seen.bytes piece.now self.new.seen.bytes
             (channel K.contents K.has_failed sink.old sink.new)
             self.old.written self.new.written result }
+        ensures refused { IfErr result (KeepsRefusal self.old.seen.bytes piece.now self.new.seen) }
         // A sink that had not failed has not failed after a piece that is told.
         ensures works { OnOk result
             (K.has_failed sink.old ≡ false → K.has_failed sink.new ≡ false) }
@@ -210,6 +211,7 @@ fn tell_skipped<K: Sink, R: Report>(
     ensures passes { Passes R.has_heard R.line reporter.old reporter.new
         decoder.old.bytes piece.now decoder.new.bytes
         (channel K.contents K.has_failed sink.old sink.new) written.old written.new result }
+    ensures refused { IfErr result (KeepsRefusal decoder.old.bytes piece.now decoder.new) }
     ensures works { OnOk result (K.has_failed sink.old ≡ false → K.has_failed sink.new ≡ false) }
     ensures viable { IsViable Global chain_limit decoder.new.bytes }
 {
@@ -257,6 +259,7 @@ fn tell_next<K: Sink, R: Report>(
     ensures passes { Passes R.has_heard R.line reporter.old reporter.new
         decoder.old.bytes piece.now decoder.new.bytes
         (channel K.contents K.has_failed sink.old sink.new) written.old written.new result }
+    ensures refused { IfErr result (KeepsRefusal decoder.old.bytes piece.now decoder.new) }
     ensures works { OnOk result (K.has_failed sink.old ≡ false → K.has_failed sink.new ≡ false) }
     ensures viable { IsViable Global chain_limit decoder.new.bytes }
 {
@@ -290,6 +293,7 @@ fn tell_piece<K: Sink, R: Report>(
     ensures passes { Passes R.has_heard R.line reporter.old reporter.new
         decoder.old.bytes piece.now decoder.new.bytes
         (channel K.contents K.has_failed sink.old sink.new) written.old written.new result }
+    ensures refused { IfErr result (KeepsRefusal decoder.old.bytes piece.now decoder.new) }
     ensures works { OnOk result (K.has_failed sink.old ≡ false → K.has_failed sink.new ≡ false) }
     ensures viable { IsViable Global chain_limit decoder.new.bytes }
 {

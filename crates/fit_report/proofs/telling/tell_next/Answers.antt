@@ -3,7 +3,7 @@ use Rattle.fit_report.proofs.Common.{channel, reverse, ap, ◌∙◌, subst, Err
 use Rattle.fit_report.proofs.Common.{Global, chain_limit, IsViable}
 use Rattle.std.proofs.lemmas.Result.{IfOk-from_err}
 use Rattle.fit_report.proofs.Hearing.{heard_more, heard_next, not_told, uses_some}
-use Rattle.fit_report.proofs.Pieces.{stops, stops_before}
+use Rattle.fit_report.proofs.Pieces.{keeps, keeps_none, stops, stops_before}
 use Rattle.fit_report.proofs.Texts.{stands_more, stands_on, stops_in, text_told}
 use Rattle.fit_report.proofs.telling.tell_next.Goals as goal
 
@@ -113,3 +113,23 @@ returns-in_err-used-clause-works g c = IfOk-from_err c.from_residual.result _ c.
 
 pub returns-in_err-put_text-clause-works : goal.returns-in_err-put_text-clause-works
 returns-in_err-put_text-clause-works g c = IfOk-from_err c.from_residual-in_err-put_text.result _ c.from_residual-in_err-put_text.ensures.0
+
+pub returns-in_err-used-clause-refused : goal.returns-in_err-used-clause-refused
+returns-in_err-used-clause-refused g c =
+    let p = err_from_is_err_and c.from_residual.result c.from_residual.ensures.1 in
+    rw (p.1, p.2) (keeps Global c.args.decoder.now c.args.piece.now c.feed.new.self c.in_err-used.field-0.0 (record {
+      refused = λ place reason is. c.feed.ensures.refused place reason c.requires.fresh (c.in_err-used.was ∙ ap Err is);
+      memory = λ used is. c.feed.ensures.memory used (c.in_err-used.was ∙ ap Err is);
+      others = λ place. (
+        λ is. (c.feed.ensures.others place).0 (c.in_err-used.was ∙ ap Err is),
+        λ is.
+            (c.feed.ensures.others place).1 (c.in_err-used.was ∙ ap Err is),
+      );
+    }))
+
+pub returns-in_err-put_text-clause-refused : goal.returns-in_err-put_text-clause-refused
+returns-in_err-put_text-clause-refused g c =
+    let p = err_from_is_err_and c.from_residual-in_err-put_text.result c.from_residual-in_err-put_text.ensures.1 in
+    rw (p.1, p.2) (keeps_none c.args.decoder.now.bytes c.args.piece.now c.feed.new.self c.as_slice.result.now
+    (channel g.K.Sink.contents g.K.Sink.has_failed c.args.sink.now c.put_text.new.sink) c.args.written.now c.put_text.new.written c.in_err-put_text.field-0.0
+    c.in_err-put_text.ensures.puts)

@@ -1,8 +1,8 @@
 -- A piece is told event by event, but for what the reporter skips.
-use Rattle.fit_report.proofs.Common.{◌+◌, ◌++◌, ◌∙◌, List, ℕ, None, sym, ap, arith, append-nil, Seen, channel, err_from_is_err_and}
+use Rattle.fit_report.proofs.Common.{◌+◌, ◌++◌, ◌∙◌, List, ℕ, None, [], sym, ap, arith, append-nil, Seen, channel, err_from_is_err_and}
 use Rattle.std.proofs.lemmas.List.{take_all}
 use Rattle.std.proofs.lemmas.Result.{IfOk-from_err}
-use Rattle.fit_report.proofs.Pieces.{within_after, fed_after, stops_after}
+use Rattle.fit_report.proofs.Pieces.{within_after, fed_after, keeps_after, stops_after}
 use Rattle.fit_report.proofs.Skipped.{fed_so}
 use Rattle.fit_report.proofs.telling.tell_piece.Goals as goal
 
@@ -132,3 +132,25 @@ split_at-requires-in-loop-at g c =
 
 pub tell_skipped-requires-clause-viable : goal.tell_skipped-requires-clause-viable
 tell_skipped-requires-clause-viable g c = c.loop-at.invariant.viable
+
+pub returns-in_err-skipped-clause-refused : goal.returns-in_err-skipped-clause-refused
+returns-in_err-skipped-clause-refused g c =
+    let p = err_from_is_err_and c.from_residual.result c.from_residual.ensures.1 in
+    let i = c.loop-at.invariant in
+    rw (p.1, p.2) (keeps_after g.R.Report.has_heard g.R.Report.line c.args.decoder.now c.loop-at.decoder [] c.args.piece.now c.split_at.result.1.now c.loop-at.at
+    c.tell_skipped.new.reporter (channel g.K.Sink.contents g.K.Sink.has_failed c.args.sink.now c.tell_skipped.new.sink)
+    i.within i.is_fed c.split_at.ensures.back c.tell_skipped.new.decoder c.in_err-skipped.field-0.0 c.in_err-skipped.ensures.refused)
+
+pub returns-in_err-at-clause-refused : goal.returns-in_err-at-clause-refused
+returns-in_err-at-clause-refused g c =
+    let p = err_from_is_err_and c.from_residual-in_err-at.result c.from_residual-in_err-at.ensures.1 in
+    let i = c.loop-at.invariant in
+    let piece = c.args.piece.now in
+    let used = c.in_ok-skipped.ensures.used in
+    rw (p.1, p.2) (keeps_after g.R.Report.has_heard g.R.Report.line c.args.decoder.now c.tell_skipped.new.decoder [] piece
+    c.split_at-in-loop-at.result.1.now (c.loop-at.at + c.in_ok-skipped.skipped) c.tell_next.new.reporter
+    (channel g.K.Sink.contents g.K.Sink.has_failed c.args.sink.now c.tell_next.new.sink)
+    (within_after piece c.split_at.result.1.now c.loop-at.at c.in_ok-skipped.skipped i.within c.split_at.ensures.back used.0)
+    (fed_after c.args.decoder.now c.loop-at.decoder c.tell_skipped.new.decoder piece c.split_at.result.1.now c.loop-at.at c.in_ok-skipped.skipped i.is_fed
+    c.split_at.ensures.back used.1)
+    c.split_at-in-loop-at.ensures.back c.tell_next.new.decoder c.in_err-at.field-0.0 c.in_err-at.ensures.refused)

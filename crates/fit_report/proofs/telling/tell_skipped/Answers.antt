@@ -1,7 +1,7 @@
 -- What is skipped is told.
 use Rattle.fit_report.proofs.Common.{channel, reverse, ap, subst, AreEvents, Seen, err_from_is_err_and, Global, chain_limit, IsViable}
 use Rattle.std.proofs.lemmas.Result.{IfOk-from_err}
-use Rattle.fit_report.proofs.Pieces.{stops_before}
+use Rattle.fit_report.proofs.Pieces.{keeps_none, stops_before}
 use Rattle.fit_report.proofs.Skipped.{fed_so, skips_heard}
 use Rattle.fit_report.proofs.Texts.{stands_on, stops_in}
 use Rattle.fit_report.proofs.telling.tell_skipped.Goals as goal
@@ -44,3 +44,10 @@ returns-in_err-put_text-clause-used g c = IfOk-from_err c.from_residual.result _
 
 pub returns-in_err-put_text-clause-works : goal.returns-in_err-put_text-clause-works
 returns-in_err-put_text-clause-works g c = IfOk-from_err c.from_residual.result _ c.from_residual.ensures.0
+
+pub returns-in_err-put_text-clause-refused : goal.returns-in_err-put_text-clause-refused
+returns-in_err-put_text-clause-refused g c =
+    let p = err_from_is_err_and c.from_residual.result c.from_residual.ensures.1 in
+    rw (p.1, p.2) (keeps_none c.args.decoder.now.bytes c.args.piece.now c.skip_all.new.decoder c.as_slice.result.now
+    (channel g.K.Sink.contents g.K.Sink.has_failed c.args.sink.now c.put_text.new.sink) c.args.written.now c.put_text.new.written c.in_err-put_text.field-0.0
+    c.in_err-put_text.ensures.puts)

@@ -6,3 +6,6 @@ returns-clause-all g c = search rules
 
 pub returns-clause-passes : goal.returns-clause-passes
 returns-clause-passes g c = search rules
+
+pub returns-clause-refused : goal.returns-clause-refused
+returns-clause-refused g c = search rules
