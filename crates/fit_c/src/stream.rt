@@ -1,5 +1,8 @@
 //! Files whose bytes come in pieces. What a call hands out belongs to the caller, who frees it where it isn't empty.
-ghost use Rattle.std.specs.Prelude.{◌≡◌, ◌≢◌, ◌⊎◌, [], IfSome, MatchOption, None, Some};
+ghost use Rattle.std.specs.Prelude.{◌≡◌, ◌≢◌, ◌⊎◌, ◌++◌, [], IfSome, MatchOption, None, Some};
+ghost use Rattle.std.specs.declared.alloc.Global.{Global};
+ghost use Rattle.fit_record.specs.Files.{chain_limit, IsViable};
+ghost use Rattle.fit_chain.specs.Checks.{AreChain};
 ghost use Rattle.fit_stream.specs.Streams.{StreamNow};
 ghost use Rattle.fit_stream.specs.declared.kind.Kind.{Kind as Kinds};
 ghost use Rattle.fit_c.specs.Answers.{status_alone};
@@ -91,6 +94,14 @@ pub extern "C" fn gazhdor_feed(
     ensures fed { (old : StreamNow) → stream.old.value ≡ Some old
         → (new : StreamNow) × (stream.new.value ≡ Some new)
         × FeedsStream old new bytes.now text.new.now result }
+    ensures good { (new : StreamNow) → stream.new.value ≡ Some new
+        → result.status ≡ 0 → IsViable Global chain_limit new.flow.bytes }
+    // Bytes that begin a chain get no other status, unless memory is refused.
+    ensures begins { (old : StreamNow) → stream.old.value ≡ Some old → old.flow.fault ≡ None
+        → IsViable Global chain_limit (old.flow.bytes ++ bytes.now)
+        → (result.status ≡ 0) ⊎ (result.status ≡ 3) }
+    // That the bytes end too soon is only what `gazhdor_finish` says.
+    ensures may_go_on { result.status ≢ 2 }
 {
     match stream.take(alloc) {
         None => closed(text),
@@ -116,6 +127,9 @@ pub extern "C" fn gazhdor_finish(
     ensures ends { (old : StreamNow) → stream.old.value ≡ Some old
         → (new : StreamNow) × (stream.new.value ≡ Some new)
         × EndsStream old new text.new.now result }
+    // A chain of files gets no other status, where no fault came before.
+    ensures chain { (old : StreamNow) → stream.old.value ≡ Some old → old.flow.fault ≡ None
+        → AreChain Global old.flow.bytes → result.status ≡ 0 }
 {
     match stream.take(alloc) {
         None => closed(text),

@@ -3,7 +3,7 @@ use Rattle.fit_stream.proofs.Common.{◌≡◌, ℕ, ◌+◌, List, [], ◌++◌
 use Rattle.fit_stream.proofs.Common.{◌∙◌, subst, arith, append_assoc, length-append, take-append-add, take-append_seam, append-nil, get_or-append-add}
 use Rattle.fit_stream.proofs.Common.{take-append-drop, Global, Appends, FitFile, chain_limit, IsViable, Fault, AreChain, Event, AreEvents}
 use Rattle.fit_stream.proofs.Common.{IsAny, MayLackMemory, Progress, HasCome, at_header, IsRefused, ReportFault, Lines, text_of, Channel, Stands}
-use Rattle.fit_stream.proofs.Common.{Stops, TellsMore, HasLines, IsFound, IsGoodSoFar, EndsFlow, FeedsFlow, Flow, Seen, IsOk, IsErr, ◌↔◌}
+use Rattle.fit_stream.proofs.Common.{Stops, TellsMore, HasLines, IsFound, IsGoodSoFar, StopsIn, EndsFlow, FeedsFlow, Flow, Seen, IsOk, IsErr, ◌↔◌, ◌≢◌}
 use Rattle.fit_chain.proofs.Faults.{chain_come}
 use Rattle.fit_chain.specs.declared.event.Fault.TheVariants as faults
 use Rattle.fit_report.specs.declared.fault.ReportFault.TheVariants as reports
@@ -36,17 +36,34 @@ module _ {R : Type 0} (has_heard : R → List (Event Global) → Type 0) (line :
   after : (put : List ℕ) → Appends sink.before sink.after put → taken ++ text ≡ first ++ (told ++ put)
   after = taken_after first taken kept told text sink.before sink.after is_kept joined is_text
 
-  front : (k : ℕ) → bytes ++ take k piece ≡ take (length bytes + k) (bytes ++ piece)
-  front k = sym (take-append-add bytes piece k)
-
   lines : (k : ℕ) (heard : List (Event Global)) → TellsMore line (bytes ++ take k piece) told heard sink
       → HasLines line first (bytes ++ take k piece) (taken ++ text)
   lines k heard (are, put, is, more) = (heard, are, after put more ∙ ap (λ t. first ++ t) (sym is))
 
-  pub stop_found : (fault : ReportFault) → Stops has_heard line bytes told piece reporter sink fault
-      → IsFound line first (bytes ++ piece) (taken ++ text) (Err fault)
-  stop_found (reports.Decode (faults.Refused place reason)) (k, within, is, why, heard, has, tells) =
-      let there : bytes ++ take k piece ≡ take place (bytes ++ piece) = front k ∙ ap (λ n. take n (bytes ++ piece)) (sym is) in
+  pub stops_in : (fault : ReportFault) → Stops has_heard line bytes told piece reporter sink fault
+      → StopsIn line first bytes piece (taken ++ text) fault
+  stops_in (reports.Decode (faults.Refused place reason)) (k, within, is, why, heard, has, tells) = (k, within, is, why, lines k heard tells)
+  stops_in (reports.Decode fault) none = absurd none
+  stops_in reports.NoMemory (k, heard, tells, lacks) = (k, lines k heard tells, lacks)
+  stops_in (reports.Write count) (k, heard, viable, are, put, is, bad, n, short, more, counted) = (
+    k,
+    heard,
+    viable,
+    are,
+    length told + n,
+    omega (arith, short, ap length is, length-append told put),
+    after (take n put) more ∙ ap (λ t. first ++ t) (sym (take-append-add told put n) ∙ ap (take (length told + n)) (sym is)),
+    counted,
+  )
+
+-- What has stopped in a piece is found of all bytes.
+module _ (line : Lines Global) (first bytes piece text : List ℕ) where
+  front_of : (k : ℕ) → bytes ++ take k piece ≡ take (length bytes + k) (bytes ++ piece)
+  front_of k = sym (take-append-add bytes piece k)
+
+  pub stop_found : (fault : ReportFault) → StopsIn line first bytes piece text fault → IsFound line first (bytes ++ piece) text (Err fault)
+  stop_found (reports.Decode (faults.Refused place reason)) (k, within, is, why, lines) =
+      let there : bytes ++ take k piece ≡ take place (bytes ++ piece) = front_of k ∙ ap (λ n. take n (bytes ++ piece)) (sym is) in
       let byte : get_or piece k 0 ≡ get_or (bytes ++ piece) place 0 = sym (get_or-append-add bytes piece k 0) ∙ ap (λ n. get_or (bytes ++ piece) n 0) (sym is)
       in (
         (
@@ -54,29 +71,38 @@ module _ {R : Type 0} (has_heard : R → List (Event Global) → Type 0) (line :
           subst (λ b. IsRefused Global chain_limit (take place (bytes ++ piece)) b reason) byte
               (subst (λ t. IsRefused Global chain_limit t (get_or piece k 0) reason) there why),
         ),
-        subst (λ t. HasLines line first t (taken ++ text)) there (lines k heard tells),
+        subst (λ t. HasLines line first t text) there lines,
       )
   stop_found (reports.Decode fault) none = absurd none
-  stop_found reports.NoMemory (k, heard, tells, lacks) =
-      let told_ : List ℕ = bytes ++ take k piece in
-      let parts : told_ ++ drop k piece ≡ bytes ++ piece =
+  stop_found reports.NoMemory (k, lines, lacks) =
+      let told : List ℕ = bytes ++ take k piece in
+      let parts : told ++ drop k piece ≡ bytes ++ piece =
       append_assoc bytes (take k piece) (drop k piece) ∙ ap (λ l. bytes ++ l) (take-append-drop k piece) in
-      let same : told_ ≡ take (length told_) (bytes ++ piece) = sym (take-append_seam told_ (drop k piece)) ∙ ap (take (length told_)) parts in (
-        length told_,
-        subst (λ t. HasLines line first t (taken ++ text)) same (lines k heard tells),
+      let same : told ≡ take (length told) (bytes ++ piece) = sym (take-append_seam told (drop k piece)) ∙ ap (take (length told)) parts in (
+        length told,
+        subst (λ t. HasLines line first t text) same lines,
         lacks.0,
         lacks.1,
         subst (λ b. MayLackMemory Global IsAny chain_limit b lacks.0) parts lacks.2,
       )
-  stop_found (reports.Write count) (k, heard, viable, are, put, is, bad, n, short, more, counted) = (
+  stop_found (reports.Write count) (k, heard, viable, are, n, short, is, counted) = (
     length bytes + k,
     heard,
-    subst (IsViable Global chain_limit) (front k) viable,
-    subst (λ t. AreEvents t (reverse heard)) (front k) are,
-    length told + n,
-    omega (arith, short, ap length is, length-append told put),
-    after (take n put) more ∙ ap (λ t. first ++ t) (sym (take-append-add told put n) ∙ ap (take (length told + n)) (sym is)),
+    subst (IsViable Global chain_limit) (front_of k) viable,
+    subst (λ t. AreEvents t (reverse heard)) (front_of k) are,
+    n,
+    short,
+    is,
   )
+
+  -- bytes that end too soon stop nothing
+  pub may_go_on : (fault : ReportFault) → StopsIn line first bytes piece text fault → (place : ℕ) → fault ≢ reports.Decode (faults.Truncated place)
+  may_go_on (reports.Decode (faults.Refused place reason)) stops other = λ is. absurd cc
+  may_go_on (reports.Decode (faults.Truncated place)) none other = absurd none
+  may_go_on (reports.Decode (faults.NoMemory used)) none other = absurd none
+  may_go_on (reports.Decode (faults.Read place)) none other = absurd none
+  may_go_on reports.NoMemory stops other = λ is. absurd cc
+  may_go_on (reports.Write count) stops other = λ is. absurd cc
 
 -- ---- no fault
 
@@ -140,14 +166,22 @@ module _ (line : Lines Global) (first : List ℕ) (old : Flow) (text : List ℕ)
   again : (other : ReportFault) → old.fault ≡ Some other → fault ≡ other
   again other was = cc
 
-  pub fed_again : (piece : List ℕ) → FeedsFlow line first old old piece text (Err fault)
-  fed_again piece = record {
+  pub fed_again : ((place : ℕ) → fault ≢ reports.Decode (faults.Truncated place)) → (piece : List ℕ) → FeedsFlow line first old old piece text (Err fault)
+  fed_again may piece = record {
     handed = nothing_more;
     latched = λ other was. (refl, none, ap Err (again other was));
     fed = λ fresh. cc;
     good = tt;
     bad = (is, found);
+    stops = λ fresh. absurd cc;
+    may_go_on = may;
   }
 
   pub ended_again : EndsFlow line first old old text (Err fault)
-  ended_again = record { handed = nothing_more; same = (refl, refl); latched = λ other was. (none, ap Err (again other was)); found = found }
+  ended_again = record {
+    handed = nothing_more;
+    same = (refl, refl);
+    latched = λ other was. (none, ap Err (again other was));
+    found = found;
+    short = λ fresh. absurd cc;
+  }

@@ -45,10 +45,13 @@ one_refusal reasons bytes p q r s first second =
     (subst (λ n. IsRefused Global chain_limit (take n bytes) (get_or bytes n 0) r) same first.1) second.1 in
     λ i. faults.Refused (same i) (reason i)
 
+pub none_of_viable : (bytes : List ℕ) (p : ℕ) (r : Reason) → IsFaultOf bytes (faults.Refused p r) → IsViable Global chain_limit bytes → ⊥
+none_of_viable bytes p r first viable =
+    none_refused bytes [] p r first.0 viable (subst (λ b. IsFaultOf b (faults.Refused p r)) (sym (append-nil bytes)) first)
+
 -- bytes that end too soon have no refused byte
 not_both : (bytes : List ℕ) (p q : ℕ) (r : Reason) → IsFaultOf bytes (faults.Refused p r) → IsFaultOf bytes (faults.Truncated q) → ⊥
-not_both bytes p q r first (end, viable, none) =
-    none_refused bytes [] p r first.0 viable (subst (λ b. IsFaultOf b (faults.Refused p r)) (sym (append-nil bytes)) first)
+not_both bytes p q r first (end, viable, none) = none_of_viable bytes p r first viable
 
 -- ---- the text
 

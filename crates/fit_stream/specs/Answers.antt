@@ -1,13 +1,14 @@
 -- What is said of the bytes that were fed to a stream, and the text of them.
-use Rattle.std.specs.Prelude.{◌≡◌, ℕ, ◌≤◌, ◌<◌, List, [], ◌++◌, Result, Ok, Err, length, reverse, take}
+use Rattle.std.specs.Prelude.{◌≡◌, ℕ, ◌+◌, ◌-◌, ◌^◌, ◌≤◌, ◌<◌, min, List, [], ◌++◌, Result, Ok, Err, drop, length, reverse, slice_index, take}
 use Rattle.std.specs.declared.alloc.Global.{Global}
 use Rattle.fit_record.specs.declared.file.FitFile.{FitFile}
 use Rattle.fit_record.specs.Files.{chain_limit, IsViable}
 use Rattle.fit_chain.specs.declared.event.Fault.TheVariants as faults
 use Rattle.fit_chain.specs.Checks.{AreFiles, IsFaultOf}
 use Rattle.fit_chain.specs.Events.{Event, AreEvents}
-use Rattle.fit_chain.specs.Memory.{IsAny, MayLackMemory}
+use Rattle.fit_chain.specs.Memory.{IsAny, MayLackMemory, MayLackMemoryIn}
 use Rattle.fit_chain.specs.Progress.{Progress, HasCome}
+use Rattle.fit_chain.specs.Refusals.{IsRefused}
 use Rattle.fit_report.specs.declared.fault.ReportFault.{ReportFault}
 use Rattle.fit_report.specs.declared.fault.ReportFault.TheVariants as reports
 use Rattle.fit_report.specs.Heard.{Lines, text_of}
@@ -39,3 +40,17 @@ IsFound line first bytes text (Err reports.NoMemory) =
 IsFound line first bytes text (Err (reports.Write written)) =
     (k : ℕ) × (heard : List (Event Global)) × IsViable Global chain_limit (take k bytes) × AreEvents (take k bytes) (reverse heard)
     × (n : ℕ) × (n < length (text_of line heard)) × (text ≡ first ++ take n (text_of line heard))
+
+-- Where a piece after these bytes stops a stream, and the text of all bytes: at a byte of the piece that is refused, and the text is that of
+-- all before it; or memory was refused at a byte of the piece that isn't refused, nor one before it, and that may take memory or completes an
+-- event, and the text is that of some bytes before it, or that many first bytes of such a text. Bytes that end too soon stop nothing.
+abbrev pub StopsIn : Lines Global → List ℕ → List ℕ → List ℕ → List ℕ → ReportFault → Type 0
+StopsIn line first bytes piece text (reports.Decode (faults.Refused place reason)) =
+    (k : ℕ) × (k < length piece) × (place ≡ length bytes + k) × IsRefused Global chain_limit (bytes ++ take k piece) (slice_index piece k) reason
+    × HasLines line first (bytes ++ take k piece) text
+StopsIn line first bytes piece text (reports.Decode fault) = ⊥
+StopsIn line first bytes piece text reports.NoMemory =
+    (k : ℕ) × HasLines line first (bytes ++ take k piece) text × MayLackMemoryIn Global IsAny (bytes ++ take k piece) (drop k piece)
+StopsIn line first bytes piece text (reports.Write written) =
+    (k : ℕ) × (heard : List (Event Global)) × IsViable Global chain_limit (bytes ++ take k piece) × AreEvents (bytes ++ take k piece) (reverse heard)
+    × (n : ℕ) × (n < length (text_of line heard)) × (text ≡ first ++ take n (text_of line heard)) × (written ≡ min n (2 ^ 64 - 1))

@@ -1,9 +1,11 @@
 -- What a lane keeps.
-use Rattle.std.specs.Prelude.{◌≡◌, ℕ, List, ◌++◌, Option, None, Some, Err}
+use Rattle.std.specs.Prelude.{◌≡◌, ◌≢◌, ℕ, List, ◌++◌, Option, None, Some, Err}
 use Rattle.std.specs.declared.alloc.Global.{Global}
 use Rattle.fit_record.specs.Files.{chain_limit, IsViable}
+use Rattle.fit_chain.specs.declared.event.Fault.TheVariants as faults
 use Rattle.fit_chain.specs.Events.{Event}
 use Rattle.fit_report.specs.declared.fault.ReportFault.{ReportFault}
+use Rattle.fit_report.specs.declared.fault.ReportFault.TheVariants as reports
 use Rattle.fit_report.specs.Heard.{Lines}
 use Rattle.fit_report.specs.Telling.{Stands, ToldSoFar}
 use Rattle.fit_stream.specs.Answers.{IsFound}
@@ -31,3 +33,4 @@ pub record IsSoundLane {R : Type 0} (has_heard : R → List (Event Global) → T
     (held : Option (List ℕ)) (fault : Option ReportFault) (first bytes taken : List ℕ) : Type 0 where
   pub goes_on : fault ≡ None → LaneGoesOn has_heard line reporter telling held first bytes taken
   pub stopped : (f : ReportFault) → fault ≡ Some f → IsFound line first bytes taken (Err f)
+  pub may_go_on : (f : ReportFault) → fault ≡ Some f → (place : ℕ) → f ≢ reports.Decode (faults.Truncated place)

@@ -1,7 +1,9 @@
 -- What the telling told is what flows through the lane.
 use Rattle.fit_stream.proofs.Common.{◌≡◌, ◌∙◌, [], ◌++◌, None, Some, Ok, Err, ap, sym, subst, append-nil, Channel, IsFound, IsGoodSoFar, FeedsFlow, Flow}
-use Rattle.fit_stream.proofs.Common.{LaneNow, Seen, text_of, refl, rules}
-use Rattle.fit_stream.proofs.Flowing.{all_taken, fed_again, goes_well, stands_anew, stop_found}
+use Rattle.fit_stream.proofs.Common.{ℕ, ◌≢◌, LaneNow, ReportFault, Seen, StopsIn, text_of, refl, rules}
+use Rattle.fit_chain.specs.declared.event.Fault.TheVariants as faults
+use Rattle.fit_report.specs.declared.fault.ReportFault.TheVariants as reports
+use Rattle.fit_stream.proofs.Flowing.{all_taken, fed_again, goes_well, may_go_on, stands_anew, stop_found, stops_in}
 use Rattle.fit_stream.proofs.lane.Lane.feed.Goals as goal
 
 pub returns-in-Some-clause-feeds : goal.returns-in-Some-clause-feeds
@@ -12,7 +14,8 @@ returns-in-Some-clause-feeds g c =
     let fault = c.in-Some.fault in
     let inside : Flow = record { bytes = c.self.inside.fed.items; text = c.self.inside.taken.items; fault = c.self.inside.fault } in
     subst (λ (o : LaneNow). FeedsFlow l o.first o.flow o.flow piece text (Err fault)) c.self.view_is
-    (fed_again l c.self.inside.first.items inside text fault c.new.ensures.items c.in-Some.is (c.self.invariant.stopped fault c.in-Some.is) piece)
+    (fed_again l c.self.inside.first.items inside text fault c.new.ensures.items c.in-Some.is (c.self.invariant.stopped fault c.in-Some.is)
+    (c.self.invariant.may_go_on fault c.in-Some.is) piece)
 
 pub invariant_of-self : goal.invariant_of-self
 invariant_of-self g c =
@@ -35,6 +38,7 @@ invariant_of-self g c =
         stands = stands_anew first taken i.kept i.told s i.is_kept i.joined text c.take-text.ensures.text c.take-text.new.sink.held c.take-text.ensures.none;
       };
       stopped = λ f was. absurd cc;
+      may_go_on = λ f was. absurd cc;
     }
 
 pub returns-in-Ok-clause-feeds : goal.returns-in-Ok-clause-feeds
@@ -52,7 +56,7 @@ returns-in-Ok-clause-feeds g c =
     ap (λ (v : Seen). v.bytes) c.in-Ok.ensures.all ∙ ap (λ b. b ++ piece) i.fed ∙ sym c.note.ensures in
     let good : IsGoodSoFar l first now.bytes (c.self.inside.taken.items ++ text) files =
     goes_well first c.self.inside.taken.items i.kept i.told s i.is_kept i.joined text c.take-text.ensures.text files c.in-Ok.ensures.viable
-    (c.files.ensures (ap (λ (v : Seen). v.refusal) c.in-Ok.ensures.all)) in
+    (c.files.ensures.files (ap (λ (v : Seen). v.refusal) c.in-Ok.ensures.all)) in
     let new : Flow = record { bytes = c.note.new.self.items; text = c.take-text.new.taken.items; fault = c.self.inside.fault } in
     subst (λ (o : LaneNow). FeedsFlow l o.first o.flow new piece text (Ok files)) c.self.view_is (record {
       handed = c.take-text.ensures.taken;
@@ -64,6 +68,8 @@ returns-in-Ok-clause-feeds g c =
             (subst (λ t. IsGoodSoFar l first now.bytes t files) (sym c.take-text.ensures.taken) good),
       );
       bad = tt;
+      stops = λ none. tt;
+      may_go_on = tt;
     })
 
 pub invariant_of-self-in-Err : goal.invariant_of-self-in-Err
@@ -76,15 +82,20 @@ invariant_of-self-in-Err g c =
     let text = c.take-text.result.items in
     let bytes = c.self.inside.telling.seen.bytes in
     let sink : Channel = record { before = c.self.inside.sink.held; after = c.feed-told.new.sink.held; failed = c.feed-told.new.sink.failed } in
-    let found : IsFound l first (bytes ++ piece) (c.self.inside.taken.items ++ text) (Err c.in-Err.fault) =
-    stop_found g.R.Report.has_heard l first bytes piece c.self.inside.taken.items i.kept i.told text c.feed-told.new.reporter sink i.is_kept i.joined
+    let all = c.self.inside.taken.items ++ text in
+    let stops : StopsIn l first bytes piece all c.in-Err.fault =
+    stops_in g.R.Report.has_heard l first bytes piece c.self.inside.taken.items i.kept i.told text c.feed-told.new.reporter sink i.is_kept i.joined
     c.take-text.ensures.text c.in-Err.fault (c.in-Err.ensures.passes i.told c.self.inside.sink.held i.stands) in
+    let found : IsFound l first (bytes ++ piece) all (Err c.in-Err.fault) = stop_found l first bytes piece all c.in-Err.fault stops in
     record {
       goes_on = λ none. absurd cc;
       stopped = λ f was.
           subst (λ e. IsFound l first c.note.new.self.items c.take-text.new.taken.items (Err e)) (let same : c.in-Err.fault ≡ f = cc in same)
           (subst (λ b. IsFound l first b c.take-text.new.taken.items (Err c.in-Err.fault)) (ap (λ b. b ++ piece) i.fed ∙ sym c.note.ensures)
           (subst (λ t. IsFound l first (bytes ++ piece) t (Err c.in-Err.fault)) (sym c.take-text.ensures.taken) found));
+      may_go_on = λ f was.
+          subst (λ (e : ReportFault). (place : ℕ) → e ≢ reports.Decode (faults.Truncated place)) (let same : c.in-Err.fault ≡ f = cc in same)
+          (may_go_on l first bytes piece all c.in-Err.fault stops);
     }
 
 pub returns-in-Err-clause-feeds : goal.returns-in-Err-clause-feeds
@@ -98,9 +109,11 @@ returns-in-Err-clause-feeds g c =
     let bytes = c.self.inside.telling.seen.bytes in
     let fault = c.in-Err.fault in
     let sink : Channel = record { before = c.self.inside.sink.held; after = c.feed-told.new.sink.held; failed = c.feed-told.new.sink.failed } in
-    let found : IsFound l first (bytes ++ piece) (c.self.inside.taken.items ++ text) (Err fault) =
-    stop_found g.R.Report.has_heard l first bytes piece c.self.inside.taken.items i.kept i.told text c.feed-told.new.reporter sink i.is_kept i.joined
+    let all = c.self.inside.taken.items ++ text in
+    let stops : StopsIn l first bytes piece all fault =
+    stops_in g.R.Report.has_heard l first bytes piece c.self.inside.taken.items i.kept i.told text c.feed-told.new.reporter sink i.is_kept i.joined
     c.take-text.ensures.text fault (c.in-Err.ensures.passes i.told c.self.inside.sink.held i.stands) in
+    let found : IsFound l first (bytes ++ piece) all (Err fault) = stop_found l first bytes piece all fault stops in
     let new : Flow = record { bytes = c.note.new.self.items; text = c.take-text.new.taken.items; fault = Some fault } in
     subst (λ (o : LaneNow). FeedsFlow l o.first o.flow new piece text (Err fault)) c.self.view_is (record {
       handed = c.take-text.ensures.taken;
@@ -112,4 +125,8 @@ returns-in-Err-clause-feeds g c =
         subst (λ b. IsFound l first b c.take-text.new.taken.items (Err fault)) (ap (λ b. b ++ piece) i.fed ∙ sym c.note.ensures)
             (subst (λ t. IsFound l first (bytes ++ piece) t (Err fault)) (sym c.take-text.ensures.taken) found),
       );
+      stops = λ none.
+          subst (λ b. StopsIn l first b piece c.take-text.new.taken.items fault) i.fed
+          (subst (λ t. StopsIn l first bytes piece t fault) (sym c.take-text.ensures.taken) stops);
+      may_go_on = may_go_on l first bytes piece all fault stops;
     })

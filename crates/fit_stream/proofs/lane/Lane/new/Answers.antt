@@ -26,6 +26,7 @@ invariant_of-result g c =
             (stands_before g.R.Report.has_heard g.R.Report.line c.args.reporter c.new-2.result.seen.bytes held none c.requires);
       };
       stopped = λ f was. absurd cc;
+      may_go_on = λ f was. absurd cc;
     }
 
 pub returns : goal.returns
