@@ -80,7 +80,7 @@ other_items A c o f bytes other =
       | inr narrow ↦ rw narrow refl
     ])
 
-first_here : (A : Type 0) (o : Order) (fields : List FieldDef) (bytes : List ℕ) (number i : ℕ) (d : FieldDef) → i < length fields
+pub first_here : (A : Type 0) (o : Order) (fields : List FieldDef) (bytes : List ℕ) (number i : ℕ) (d : FieldDef) → i < length fields
     → (get_or fields i d).number ≡ number
     → first_in {A = A} o (drop i fields) bytes number ≡ Some (get_or fields i d, items_at o (get_or fields i d) bytes)
 first_here A o fields bytes number i d h same =

@@ -1,6 +1,12 @@
 -- Data messages that a stream takes in by their bytes, and what it says of them.
 use Rattle.fit_profile.proofs.Common.{◌≡◌, ◌∙◌, List, ◌∷◌, inl, inr, false, refl, sym, ap, subst, Option, Some, None, IsSome, same_Some, list_any}
-use Rattle.fit_profile.proofs.Common.{Defined, Environment, KeepsRecords, Record, Values, defined_at, known, last_of, told, told_at}
+use Rattle.fit_profile.proofs.Common.{Defined, Environment, KeepsRecords, Record, Values, defined_at, describe, known, last_of, tell, told, told_at}
+use Rattle.fit_profile.proofs.Common.{DataFits, IsSomeAnd, ℕ}
+use Rattle.std.proofs.Common.{option_map}
+use Rattle.fit_record.specs.Records.{IsRecord}
+use Rattle.fit_record.specs.declared.learn.Description.{Description}
+use Rattle.fit_profile.specs.declared.plan.Plan.{Plan}
+use Rattle.fit_profile.specs.inner.Plans.{ArePlanned}
 use Rattle.std.specs.Global.{Global}
 use Rattle.std.specs.Prelude.{◌⊎◌, ◌==◌, ◌&&◌}
 use Rattle.fit_record.specs.MessageBytes.{message_in}
@@ -63,3 +69,23 @@ times_told earlier v p known_ none =
       ap (λ (x : Told). x.total_cycles) all,
       ap (λ (x : Told). x.accumulated_power) all,
     )
+
+-- what is said of a message is told of it
+pub said_is_told : (e : Environment Global) (l : Last) (v : Values Global) (t : Taken) → IsSomeAnd (defined_at e v.local) (DataFits v)
+    → ((p : Defined Global) → defined_at e v.local ≡ Some p → IsTaken (told_at l p.definition v) v p.definition t) → Some t.told ≡ tell e l (Data v)
+said_is_told e l v t fits said = go (defined_at e v.local) refl fits
+  where
+    go : (o : Option (Defined Global)) → defined_at e v.local ≡ o → IsSomeAnd o (DataFits v) → Some t.told ≡ option_map (λ p. told_at l p.definition v) o
+    go None here fits = absurd fits
+    go (Some p) here fits = ap Some (said p here).told
+
+-- ---- after a message the definitions are the same
+
+pub planned_after : (plans : List (Option Plan)) (e : Environment Global) (o : Option Description) → ArePlanned plans e.places → ArePlanned plans (describe e o).places
+planned_after plans e None are = are
+planned_after plans e (Some s) are = are
+
+pub record_after : (e : Environment Global) (o : Option Description) (v : Values Global) (bytes : List ℕ) → IsRecord e (Data v) bytes
+    → IsRecord (describe e o) (Data v) bytes
+record_after e None v bytes is = is
+record_after e (Some s) v bytes is = is

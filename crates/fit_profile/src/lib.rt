@@ -2,6 +2,7 @@
 //! developer fields. What the profile says without records is of `fit_names`, and is passed on here.
 #![tactic(auto)]
 
+mod by_bytes;
 mod by_plan;
 mod component;
 mod counter_places;

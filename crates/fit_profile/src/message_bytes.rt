@@ -21,7 +21,6 @@ use crate::told::{
 };
 use fit_history::History;
 use fit_record::{Env, MessageBytes, Record};
-use std::alloc::{AllocError, Global};
 
 /// What a stream says of a data message that it takes in by its bytes.
 #[derive(Clone, Copy)]
@@ -39,7 +38,7 @@ pub struct Taken {
 }
 
 /// The data message that the bytes are.
-fn message_of<'a>(env: &'a Env, bytes: &'a [u8]) -> MessageBytes<'a>
+pub(crate) fn message_of<'a>(env: &'a Env, bytes: &'a [u8]) -> MessageBytes<'a>
     requires { (v : Values Global) × IsRecord env.now (Data v) bytes.now }
     ensures read { (v : Values Global) → IsRecord env.now (Data v) bytes.now
         → message_in result ≡ v }
@@ -149,6 +148,16 @@ fn add_message(records: &mut History<Record>, message: &MessageBytes<'_>)
     ensures { records.new.items ≡ records.old.items ++ Data (message_in message.now) ∷ [] }
 {
     records.add_from(message);
+}
+
+/// Puts the data message that the bytes are in a history of records.
+pub(crate) fn add_bytes(env: &Env, records: &mut History<Record>, bytes: &[u8])
+    requires { (v : Values Global) × IsRecord env.now (Data v) bytes.now }
+    ensures { (v : Values Global) → IsRecord env.now (Data v) bytes.now
+        → records.new.items ≡ records.old.items ++ Data v ∷ [] }
+{
+    let message = message_of(env, bytes);
+    add_message(records, &message);
 }
 
 /// Changes the last ones to those after a message, and says what is told of it. Most have no counters.
@@ -271,13 +280,4 @@ pub(crate) fn take_telling(
     let lone = lone_fields(asks, known, plans, &message);
     taken.has_lone_fields = lone;
     Some(taken)
-}
-
-/// The record that the bytes of a data message are.
-pub(crate) fn record_of(env: &Env, alloc: Global, bytes: &[u8]) -> Result<Record, AllocError>
-    requires { (v : Values Global) × IsRecord env.now (Data v) bytes.now }
-    ensures { IfOk result (λ r. (v : Values Global) → IsRecord env.now (Data v) bytes.now
-        → r ≡ Data v) }
-{
-    Ok(Record::Values(message_of(env, bytes).values(alloc)?))
 }

@@ -20,10 +20,11 @@ ghost use Rattle.fit_profile.specs.contracts.stream.Stream.{the_row};
 
 mod next;
 
+use crate::by_bytes::take_in_bytes;
 use crate::by_plan::{is_plain, tell, tell_times};
 use crate::learn::take_in;
 use crate::message::Message;
-use crate::message_bytes::{Taken, record_of, said_in, take_telling};
+use crate::message_bytes::{Taken, add_bytes, said_in, take_telling};
 use crate::names::Names;
 use crate::plan::Plans;
 use crate::told::{Last, Told, last_after, uncounted, with_time};
@@ -218,21 +219,26 @@ impl Stream {
         Ok(())
     }
 
-    /// Takes a data message in by a record of it. It stands apart, since most messages need none.
+    /// Takes a data message in by its bytes, whatever it describes. It stands apart, since most describe nothing.
     #[cold]
     #[inline(never)]
-    fn take_record_of(&mut self, bytes: &[u8]) -> Result<(), AllocError>
+    fn take_any_message(&mut self, bytes: &[u8]) -> Result<(), AllocError>
         requires { (v : Values Global) × IsRecord (known self.old) (Data v) bytes.now }
         ensures ok { OnOk result ((v : Values Global)
             → IsRecord (known self.old) (Data v) bytes.now → self.new ≡ Data v ∷ self.old) }
         ensures err { OnErr result (self.new ≡ self.old) }
     {
-        let record_ = record_of(&self.env, self.alloc, bytes)?;
-        self.take(&record_)
+        let said = said_in(&self.env, &self.plans, self.last, bytes);
+        let last = last_after(self.last, Some(said.told));
+        take_in_bytes(&mut self.env, &mut self.names, bytes)?;
+        self.last = last;
+        self.is_new = false;
+        add_bytes(&self.env, &mut self.pushed, bytes);
+        Ok(())
     }
 
-    /// Takes the next record in, as `take` does, where it is the data message that these bytes are: a
-    /// record is made only of one that describes a developer field. If memory runs out, the stream stays as it was.
+    /// Takes the next record in, as `take` does, where it is the data message that these bytes are: no
+    /// record is made. If memory runs out, the stream stays as it was.
     pub fn take_message(&mut self, bytes: &[u8]) -> Result<(), AllocError>
         requires { (v : Values Global) × IsRecord (known self.old) (Data v) bytes.now }
         ensures ok { OnOk result ((v : Values Global)
@@ -246,7 +252,7 @@ impl Stream {
     {
         match self.take_telling(false, bytes) {
             Some(_) => Ok(()),
-            None => self.take_record_of(bytes),
+            None => self.take_any_message(bytes),
         }
     }
 
@@ -277,10 +283,10 @@ impl Stream {
         )
     }
 
-    /// Takes any data message in by a record of it, and tells it. It stands apart, since most messages need none.
+    /// Takes any data message in, and tells it. It stands apart, since most describe nothing.
     #[cold]
     #[inline(never)]
-    fn tell_record_of(&mut self, bytes: &[u8]) -> Result<Taken, AllocError>
+    fn tell_any_message(&mut self, bytes: &[u8]) -> Result<Taken, AllocError>
         requires { (v : Values Global) × IsRecord (known self.old) (Data v) bytes.now }
         ensures ok { OnOk result ((v : Values Global)
             → IsRecord (known self.old) (Data v) bytes.now → self.new ≡ Data v ∷ self.old) }
@@ -291,7 +297,7 @@ impl Stream {
             → IsTaken (telling.told self.old v) v p.definition t) }
     {
         let taken = said_in(&self.env, &self.plans, self.last, bytes);
-        self.take_record_of(bytes)?;
+        self.take_any_message(bytes)?;
         Ok(taken)
     }
 
@@ -316,7 +322,7 @@ impl Stream {
             Some(taken) => Ok(taken),
             // What that call writes has a place of its own, which is cleared only there.
             None => {
-                let taken = self.tell_record_of(bytes)?;
+                let taken = self.tell_any_message(bytes)?;
                 Ok(taken)
             }
         }

@@ -2,12 +2,14 @@
 ghost use Rattle.std.specs.Prelude.{◌≡◌, ◌≤◌, IfOk, option_map, take, length, Some, None, if◌then◌else◌};
 ghost use Rattle.std.specs.String.{string_bytes};
 ghost use Rattle.std.specs.List.{list_all};
+ghost use Rattle.fit_record.specs.MessageBytes.{message_in};
+ghost use Rattle.fit_record.specs.Records.{message_size};
 ghost use Rattle.fit_profile.specs.Described.{before_closing_zeros, is_printable, printable_text, text_field};
 
-use crate::look::first_of;
+use crate::look::{first_in, first_of};
 use fit_base::base_type::STRING;
-use fit_record::{MessageDef, Values};
-use std::alloc::{AllocError, Allocator};
+use fit_record::{MessageBytes, MessageDef, Values, read_items};
+use std::alloc::{AllocError, Allocator, Global};
 use std::str;
 
 /// How many bytes of a string's field there are before its closing zeros.
@@ -88,6 +90,28 @@ pub(crate) fn text_field<A: Allocator + Copy>(
     if field.code != STRING {
         return Ok(None);
     }
+    let bytes = items.bits.as_slice();
+    text_of(alloc, &bytes[..text_len(bytes)])
+}
+
+/// The same of a message in its bytes.
+pub(crate) fn text_in(
+    alloc: Global,
+    message: &MessageBytes<'_>,
+    number: u8,
+) -> Result<Option<String>, AllocError>
+    requires { length message.now.body.now ≡ message_size message.now.defined.now }
+    ensures { IfOk result (λ text. option_map string_bytes text
+        ≡ text_field message.now.defined.now.definition (message_in message.now) number) }
+{
+    let definition = &message.defined.definition;
+    let Some((field, bytes)) = first_in(definition.fields.as_slice(), message.body, number) else {
+        return Ok(None);
+    };
+    if field.code != STRING {
+        return Ok(None);
+    }
+    let items = read_items(alloc, definition.order, field.code, field.size, bytes)?;
     let bytes = items.bits.as_slice();
     text_of(alloc, &bytes[..text_len(bytes)])
 }

@@ -1,7 +1,7 @@
 use Rattle.fit_record.specs.declared.message.Record.TheVariants.{Values as Data}
 use Rattle.fit_profile.proofs.Kept.{kept-record}
 use Rattle.fit_profile.proofs.TakenMessages.{defined_inside, said_now}
-use Rattle.fit_profile.proofs.stream.Stream.tell_record_of.Goals as goal
+use Rattle.fit_profile.proofs.stream.Stream.tell_any_message.Goals as goal
 
 pub said_in-taken-requires : goal.said_in-taken-requires
 said_in-taken-requires c = record {
