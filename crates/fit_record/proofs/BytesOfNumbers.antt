@@ -1,6 +1,6 @@
 -- The only byte of the first field of a number, in the bytes of a message.
-use Rattle.fit_record.proofs.Common.{◌≡◌, ℕ, zero, suc, ◌+◌, ◌*◌, ◌/◌, ◌<◌, ◌≤◌, Bool, true, false, cond, List, [], ◌∷◌, length, take, drop, refl, sym, ap, ◌∙◌, subst}
-use Rattle.fit_record.proofs.Common.{arith, Some, None, Option, option_and_then, ◌==◌, map, length-take-le, sum_by-cons, Items, FieldDef, Order, length-drop}
+use Rattle.fit_record.proofs.Common.{◌≡◌, ℕ, zero, suc, ◌+◌, ◌*◌, ◌/◌, ◌≤◌, Bool, true, false, cond, List, [], ◌∷◌, length, take, drop, refl, sym, ap, ◌∙◌}
+use Rattle.fit_record.proofs.Common.{arith, Some, None, option_and_then, ◌==◌, map, length-take-le, sum_by-cons, Items, FieldDef, Order}
 use Rattle.fit_record.proofs.Common.{first_items, numbers_of, field_from, fields_from, sizes, eqb-true, eqb-false, eq-eqb, slice_get}
 use Rattle.fit_record.proofs.FirstOfNumber.{dropped}
 use Rattle.fit_record.proofs.Gathering.{one_wide}

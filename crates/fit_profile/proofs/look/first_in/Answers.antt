@@ -1,4 +1,4 @@
-use Rattle.fit_profile.proofs.Common.{◌≡◌, ◌∙◌, ◌∷◌, ◌+◌, Some, FieldDef, suc, ap, arith, drop, length, take, get_or, drop-cons, drop_of_length-le, eq-eqb, refl, sym}
+use Rattle.fit_profile.proofs.Common.{◌∙◌, ◌+◌, Some, FieldDef, ap, arith, drop, length, get_or, drop_of_length-le, refl, sym}
 use Rattle.std.proofs.lemmas.List.{length-drop}
 use Rattle.std.specs.Global.{Global}
 use Rattle.fit_record.specs.ReadMessages.{field_from}

@@ -1,4 +1,4 @@
-use Rattle.fit_record.proofs.Common.{◌≡◌, ◌+◌, ℕ, ◌<◌, ◌≤◌, List, [], Some, length, drop, take, refl, sym, ap, ◌∙◌, arith, fields_from, slice_get}
+use Rattle.fit_record.proofs.Common.{◌≡◌, ◌+◌, ℕ, ◌<◌, ◌≤◌, List, [], Some, length, drop, refl, sym, ap, ◌∙◌, arith, fields_from, slice_get}
 use Rattle.fit_record.proofs.Common.{slice_get-get_or, length-drop, drop_all, ne_eqb, get_or, eqb-true, FieldDef}
 use Rattle.fit_record.specs.Environment.{only, only_byte}
 use Rattle.fit_record.proofs.BytesOfNumbers.{slots, sizes_at, found_at, passed_at, none_left}

@@ -1,4 +1,4 @@
-use Rattle.fit_step.proofs.Common.{◌≡◌, ◌+◌, [], ◌∷◌, take, refl, ap, ◌∙◌, subst, arith, take-take, length, Data, ◌≤◌}
+use Rattle.fit_step.proofs.Common.{◌≡◌, ◌+◌, [], ◌∷◌, take, ap, ◌∙◌, subst, arith, take-take, length, Data, ◌≤◌}
 use Rattle.fit_step.specs.inner.ByBytes.{IsLearned}
 use Rattle.fit_step.proofs.SkippedRecords.{skipped_after, one_learned}
 use Rattle.fit_step.proofs.skipping.skip_any_message.Goals as goal

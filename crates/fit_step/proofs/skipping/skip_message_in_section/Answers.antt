@@ -1,5 +1,4 @@
-use Rattle.fit_step.proofs.Common.{◌≡◌, [], ◌∷◌, sym, subst, arith, Data, SkipsInSection}
-use Rattle.fit_record.specs.declared.message.Values.{Values}
+use Rattle.fit_step.proofs.Common.{◌≡◌, [], ◌∷◌, subst, arith, Data, SkipsInSection}
 use Rattle.fit_step.proofs.PlainMessages.{has_some}
 use Rattle.fit_step.proofs.skipping.skip_message_in_section.Goals as goal
 

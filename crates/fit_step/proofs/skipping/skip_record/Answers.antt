@@ -1,4 +1,4 @@
-use Rattle.fit_step.proofs.Common.{◌≡◌, refl, sym, ◌∙◌, subst, slice_is_bytes, IsSkipped, Data, take, arith}
+use Rattle.fit_step.proofs.Common.{◌≡◌, refl, ◌∙◌, subst, slice_is_bytes, Data, take, arith}
 use Rattle.fit_step.specs.inner.ByBytes.{IsLearned}
 use Rattle.fit_step.proofs.SkippedRecords.{sizes_stay, table_skipped}
 use Rattle.fit_step.proofs.skipping.skip_record.Goals as goal

@@ -1,4 +1,4 @@
-use Rattle.fit_profile.proofs.Common.{◌≡◌, ◌∙◌, ◌∷◌, [], Some, sym, ap, subst, reverse, reverse-append, KeepsRecords, described_by}
+use Rattle.fit_profile.proofs.Common.{◌∙◌, ◌∷◌, [], Some, sym, ap, subst, reverse, reverse-append, KeepsRecords, described_by}
 use Rattle.fit_record.specs.Records.{IsRecord}
 use Rattle.fit_record.specs.declared.message.Record.TheVariants.{Values as Data}
 use Rattle.fit_profile.specs.inner.Plans.{ArePlanned}
