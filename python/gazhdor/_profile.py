@@ -1,0 +1,121 @@
+"""The names of the proved profile, as profile.tsv has them, and what is said of a name that neither it nor a file has."""
+import difflib
+import functools
+import itertools
+from typing import TYPE_CHECKING, Dict, Iterable, NamedTuple, Optional, Tuple, Union
+
+from ._library import packed
+
+if TYPE_CHECKING:
+    from ._names import Names
+    from ._values import Definition
+
+Kind = Union[str, int]
+_MOST_NAMES, _MOST_LETTERS = 1000, 100  # So many names are compared, and none that is longer.
+
+
+class Known(NamedTuple):
+    """A message of the profile: its number, and the numbers of its fields by their names."""
+
+    number: int
+    fields: Dict[str, int]
+
+
+# All messages have these two, which aren't in the table.
+_OF_ALL = {"timestamp": 253, "message_index": 254}
+
+
+@functools.lru_cache(None)
+def profile() -> Dict[str, Known]:
+    """The messages of the profile by their names."""
+    found: Dict[str, Known] = {}
+    lines = (packed("profile.tsv") or b"").decode().splitlines()
+    for line in lines[1:]:
+        number, name, field, field_name = line.split("\t")[:4]
+        known = found.setdefault(name, Known(int(number), dict(_OF_ALL)))
+        known.fields[field_name] = int(field)
+    return found
+
+
+@functools.lru_cache(None)
+def _by_number() -> Dict[int, Known]:
+    return {known.number: known for known in profile().values()}
+
+
+def fields_of(number: int) -> Dict[str, int]:
+    """The fields that the profile names in a message: their numbers by their names."""
+    known = _by_number().get(number)
+    return known.fields if known else _OF_ALL
+
+
+class UnknownName(KeyError):
+    """A name that neither the profile nor the file has, nor the names of the caller. `name` is the name, `nearest` the one that is most
+    like it, or None."""
+
+    def __init__(self, what: str, name: str, others: Iterable[str], more: str = "") -> None:
+        super().__init__(what, name)
+        self.name = name
+        self._others: Tuple[str, ...] = tuple(itertools.islice((other for other in others if len(other) <= _MOST_LETTERS), _MOST_NAMES))
+        self._what, self._more = what, more
+
+    @property
+    def nearest(self) -> Optional[str]:
+        # Letters of another case are no reason for another name.
+        lower = {other.lower(): other for other in reversed(self._others)}
+        near = difflib.get_close_matches(self.name[:_MOST_LETTERS].lower(), lower, 1)
+        return lower[near[0]] if near else None
+
+    def __str__(self) -> str:
+        near = self.nearest
+        return f"{self._what} {self.name!r}" + (f": is it {near!r}?" if near else self._more)
+
+    def __reduce__(self) -> "Tuple[type, Tuple[str, str, Tuple[str, ...], str]]":
+        return UnknownName, (self._what, self.name, self._others, self._more)
+
+
+def see_messages(kinds: Iterable[object], names: "Optional[Names]" = None) -> None:
+    """Raises UnknownName for a name of a message that neither the profile nor the caller has. Numbers are good."""
+    own = names.messages if names else {}
+    for kind in kinds:
+        if isinstance(kind, str) and kind not in profile() and kind not in own:
+            raise UnknownName("no message is named", kind, [*profile(), *own], "; one that has no name is asked for by its number")
+
+
+def see_fields(message: Kind, asked: Iterable[object], found: "Iterable[Definition]", own: Iterable[str] = (), names: "Optional[Names]" = None) -> None:
+    """Raises UnknownName for a name of a field that the profile hasn't for this message, nor the caller, nor one of the definitions that
+    the file has of it. Names that begin with a dot are those of `own`. Numbers, and (index, number), are good."""
+    known: Optional[Dict[str, int]] = None
+    for key in asked:
+        if not isinstance(key, str):
+            continue
+        if key.startswith("."):
+            if key not in own:
+                raise UnknownName("no message has", key, sorted(own))
+            continue
+        if known is None:
+            known = _known(message, names)
+            known.update((name, 0) for definition in found for name in definition.by_key if isinstance(name, str))
+        if key not in known:
+            raise UnknownName(f"neither the profile nor the file has in {_called(message)} a field", key, known, "; one that has no name is asked for by its number")
+
+
+def number_of(message: Kind, names: "Optional[Names]" = None) -> Optional[int]:
+    """The number of a message that is named by its name or its number."""
+    if isinstance(message, int):
+        return message
+    if names and message in names.messages:
+        return names.messages[message]
+    return profile()[message].number if message in profile() else None
+
+
+def _called(message: Kind) -> str:
+    return message if isinstance(message, str) else next((name for name, known in profile().items() if known.number == message), f"message {message}")
+
+
+def _known(message: Kind, names: "Optional[Names]") -> Dict[str, int]:
+    """The fields that the profile, and the caller, name in a message."""
+    number = number_of(message, names)
+    known = dict(_OF_ALL if number is None else fields_of(number))
+    if names and number is not None:
+        known.update((of.name, field) for field, of in names.fields(number).items() if of.name)
+    return known
