@@ -226,7 +226,7 @@ class Calls(unittest.TestCase):
     def test_only(self):
         whole = list(gazhdor.messages(2 * BYTES))
         for only, wanted in (
-            ("record", {20}), (20, {20}), ("lap", {19}), ((20, "lap"), {19, 20}), (["file_id", "nothing"], {0}), (31, {31}), ("nothing", set()), ((), set()), (None, {m.number for m in whole})
+            ("record", {20}), (20, {20}), ("lap", {19}), ((20, "lap"), {19, 20}), (["file_id", 999], {0}), (31, {31}), (999, set()), ((), set()), (None, {m.number for m in whole})
         ):
             found = list(gazhdor.messages(2 * BYTES, only=only))
             self.assertEqual([(m.file, m.place) for m in found], [(m.file, m.place) for m in whole if m.number in wanted])

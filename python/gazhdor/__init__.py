@@ -34,13 +34,15 @@ from ._columns import columns, frame, lists
 from ._library import VERSION as __version__
 from ._library import library as _library
 from ._library import text_of as _text_of
-from ._messages import Field, Message, when
+from ._messages import Field, Message, Position, when
+from ._names import EXTRA, Named, Names
+from ._profile import UnknownName
 from ._sources import Readable, Source
 from ._sources import bytes_of as _bytes_of
 from ._streams import Stream, messages
 from ._streams import found as _found
 from ._streams import rows as _rows
-from ._values import Key, Value
+from ._values import Key, Value, degrees
 from .errors import (
     FitError,
     LibraryError,
@@ -70,11 +72,16 @@ __all__ = [
     "columns",
     "frame",
     "when",
+    "degrees",
+    "Names",
+    "Named",
+    "EXTRA",
     "Stream",
     "Answer",
     "Row",
     "Message",
     "Field",
+    "Position",
     "Key",
     "Value",
     "Source",
@@ -84,6 +91,7 @@ __all__ = [
     "Truncated",
     "TextRefused",
     "NotBinary",
+    "UnknownName",
     "ReadFailed",
     "LibraryError",
     "LibraryMissing",

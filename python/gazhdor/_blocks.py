@@ -2,9 +2,11 @@
 import struct
 from typing import Any, Callable, Dict, Iterable, Iterator, NamedTuple, Optional, Tuple, Union
 
-from ._values import Definition
-
-Kind = Union[str, int]
+from ._names import Names
+from ._natives import DESCRIPTION, Natives
+from ._profile import Kind as Kind
+from ._profile import number_of, see_messages
+from ._values import Definition, told
 Only = Union[None, str, int, Iterable[Kind]]
 Blocks = Any  # bytes, or what else has slices that are bytes
 
@@ -44,28 +46,30 @@ def _count(blocks: Blocks, first: int, length: int, local: int) -> int:
         piece *= 2
 
 
-def _wants(only: Only) -> Callable[[int, bytes], bool]:
-    """What tells by its number and its name, in bytes, whether a message is asked for."""
+def _wants(only: Only, names: Optional[Names]) -> Callable[[int], bool]:
+    """What tells by its number whether a message is asked for."""
     if only is None:
-        return lambda number, name: True
+        return lambda number: True
     kinds = {only} if isinstance(only, (str, int, bytes)) else set(only)
     for kind in kinds:
         if not isinstance(kind, (str, int)):
             raise TypeError(f"a message is named by its name or its number, and not by {type(kind).__name__}")
-    numbers = {kind for kind in kinds if isinstance(kind, int)}
-    names = {kind.encode("utf-8", "replace") for kind in kinds if isinstance(kind, str) and kind}
-    return lambda number, name: number in numbers or name in names
+    see_messages(kinds, names)
+    numbers = {number_of(kind, names) for kind in kinds if isinstance(kind, (str, int))}
+    return lambda number: number in numbers
 
 
 class Walk:
     """Goes through blocks, which may come in parts, and knows the definitions that came with earlier ones."""
 
-    def __init__(self, only: Only = None) -> None:
-        self._wants = _wants(only)
+    def __init__(self, only: Only = None, names: Optional[Names] = None) -> None:
+        self._wants, self._names, self._natives = _wants(only, names), names, Natives()
         # the last definition of each local message type, where it is asked for
         self._current: Dict[int, Optional[Definition]] = {}
+        # the last definition of each local message type, where it is of field descriptions
+        self._describing: Dict[int, Definition] = {}
         # what some definitions say, so that one which comes again isn't looked into again
-        self._known: Dict[bytes, Optional[Definition]] = {}
+        self._known: Dict[Any, Optional[Definition]] = {}
         self._room = _MOST
 
     def runs(self, blocks: Blocks) -> Iterator[Run]:
@@ -76,20 +80,33 @@ class Walk:
             if kind == MESSAGE:
                 count = _count(blocks, at, length, second)
                 definition = self._current[second]
+                if second in self._describing:
+                    for place in range(at, at + count * length, length):
+                        self._natives.learn(self._describing[second], blocks[place : place + length])
                 if definition:
                     yield Run(definition, at, count, length)
                 length *= count
             elif kind == DEFINITION:
-                self._current[first] = self._definition(blocks[at : at + length])
+                self._define(first, blocks[at : at + length])
             at += length
 
-    def _definition(self, data: bytes) -> Optional[Definition]:
-        same = data[32:]  # What comes before it says nothing of messages but their length, which is that of their fields.
+    def _define(self, local: int, data: bytes) -> None:
+        number: int = _NUMBER(data, 32)[0]
+        self._current[local] = self._definition(number, data)
+        self._describing.pop(local, None)
+        if number == DESCRIPTION:
+            self._describing[local] = Definition(data)
+
+    def _definition(self, number: int, data: bytes) -> Optional[Definition]:
+        if not self._wants(number):
+            return None
+        natives = self._natives.of(data)
+        # What comes before place 32 says nothing of messages but their length, which is that of their fields.
+        same = data[32:], tuple(natives.items())
         if same not in self._known:
-            self._room -= len(same)
+            self._room -= len(data)
             if self._room < 0:
                 self._known.clear()
-                self._room = _MOST - len(same)
-            wanted = self._wants(_NUMBER(data, 32)[0], data[40 : data.index(0, 40)])
-            self._known[same] = Definition(data) if wanted else None
+                self._room = _MOST - len(data)
+            self._known[same] = Definition(data, told(self._names, number, natives))
         return self._known[same]

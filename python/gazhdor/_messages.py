@@ -1,10 +1,12 @@
 """Messages as values, made from their blocks."""
 import datetime
+import html
 import struct
-from typing import Any, Dict, Iterator, Optional, Tuple, Union
+from typing import Any, Dict, Iterator, Mapping, NamedTuple, Optional, Tuple, Union, ValuesView, overload
 
 from ._blocks import Blocks, Run
-from ._values import Definition, Entry, Exact, Key, Raw, Value, label, read_exact, read_raw
+from ._profile import UnknownName, fields_of
+from ._values import Definition, Entry, Exact, Key, Number, Raw, Value, degrees, label, read_exact, read_raw
 
 Time = Union[datetime.datetime, str]
 
@@ -13,10 +15,32 @@ SYSTEM_TIMES = 0x10000000  # A time below is the device's own, which didn't know
 _FILE, _PLACE, _TIME = struct.Struct("<I").unpack_from, struct.Struct("<Q").unpack_from, struct.Struct("<I").unpack_from
 
 
-def when(seconds: int) -> Time:
+@overload
+def when(seconds: int) -> Time: ...
+@overload
+def when(seconds: None) -> None: ...
+@overload
+def when(seconds: Optional[int]) -> Optional[Time]: ...
+def when(seconds: Optional[int]) -> Optional[Time]:
     """Returns the time that a field of type date_time stands for, in seconds since 1989-12-31T00:00:00 UTC: an aware datetime in UTC;
-    below 268,435,456 the text 'system+N', as the device didn't know the time."""
+    below 268,435,456 the text 'system+N', as the device didn't know the time. None stands for None."""
+    if seconds is None:
+        return None
     return f"system+{seconds}" if seconds < SYSTEM_TIMES else _EPOCH + datetime.timedelta(0, seconds)
+
+
+def _time_of(entry: Entry, block: bytes) -> Optional[Time]:
+    """The time of a field that is one: one by the clock of the place has no zone."""
+    seconds: Any = entry.read(block)
+    time = when(seconds)
+    return time.replace(tzinfo=None) if entry.type == "local_date_time" and isinstance(time, datetime.datetime) else time
+
+
+class Position(NamedTuple):
+    """A place in degrees: north, and east."""
+
+    latitude: float
+    longitude: float
 
 
 class Field:
@@ -29,6 +53,7 @@ class Field:
     value      a whole number as an int; a scaled number, in its unit, and float32 and float64 as a float; several numbers as a tuple of
                these; a text as a str, up to its first zero; bytes as bytes. None stands for a number that is the invalid one of its
                base type, for an empty text, for bytes of type byte that are all 0xFF, and for a field without bytes
+    native     of a developer field the number of the field that it stands for, by its description, else None
     exact      `value`, but a scaled whole number as a Decimal, with as many decimals as `to_csv` writes
     raw        what the file has: an int for each number, unscaled and invalid ones too, of a float its bits; all bytes of a text or of
                bytes
@@ -56,6 +81,10 @@ class Field:
         return self._entry.unit
 
     @property
+    def native(self) -> Optional[int]:
+        return self._entry.native
+
+    @property
     def value(self) -> Value:
         return self._entry.read(self._block)
 
@@ -67,16 +96,36 @@ class Field:
     def raw(self) -> Raw:
         return read_raw(self._entry, self._block)
 
+    def _all(self) -> Tuple[Any, ...]:
+        of = self._entry
+        return of.name, of.number, of.index, of.native, of.unit, of.kind, of.width, of.scale, of.offset, of.invalid, self.raw
+
+    def __eq__(self, other: object) -> bool:
+        if not isinstance(other, Field):
+            return NotImplemented
+        return self._all() == other._all()
+
+    def __hash__(self) -> int:
+        return hash(self._all())
+
+    def __reduce__(self) -> Any:
+        return Field, (self._block, self._entry)
+
     def __repr__(self) -> str:
         return f"<gazhdor.Field {label(self.name or self._entry.key)}={self.value!r}{f' {self.unit}' if self.unit else ''}>"
 
 
-class Message:
+class Message(Mapping[Key, Any]):
     """A data message. It keeps its own bytes and what its definition says, and makes a value when it is asked for it.
 
     A field is named by its name, by its number, or, a developer field, by (index, number), the index being its developer data index:
     `message["heart_rate"]`, `message[3]`, `message["Form power"]`, `message[0, 2]`. The values are those of `Field.value`. Where the
-    message has no such field, that is a KeyError, and `get` returns None. Of several fields of one name the first counts.
+    message has no such field, that is a KeyError, of a name that nothing has an UnknownName, and `get` returns None. Of several fields
+    of one name the first counts.
+
+    It is a mapping: a `for` over it, `keys`, `items`, `len` and `dict(message)` have each field once, by its name where it has one of its
+    own, and else by its number, or (index, number). Messages are equal where all that they tell is, their places in the source too;
+    `dict(message)` compares values alone.
     """
 
     __slots__ = ("_block", "_definition")
@@ -85,23 +134,104 @@ class Message:
         self._block, self._definition = block, definition
 
     def __getitem__(self, key: Key) -> Any:
-        return self._definition.readers[key](self._block)
+        try:
+            read = self._definition.readers[key]
+        except KeyError:
+            raise self._missing(key) from None
+        return read(self._block)
+
+    def _missing(self, key: Key) -> KeyError:
+        if not isinstance(key, str) or self._is_known(key):
+            return KeyError(key)
+        others = [*self._definition.labels, *fields_of(self.number)]
+        return UnknownName(f"neither the profile nor this {self.name or f'message {self.number}'} has a field", key, others)
+
+    def _is_known(self, key: Key) -> bool:
+        return not isinstance(key, str) or key in fields_of(self.number)
 
     def __contains__(self, key: object) -> bool:
         return key in self._definition.readers
+
+    def __iter__(self) -> Iterator[Key]:
+        return iter(self._definition.keys)
+
+    def __len__(self) -> int:
+        return len(self._definition.keys)
+
+    def __eq__(self, other: object) -> bool:
+        if not isinstance(other, Message):
+            return NotImplemented
+        return self._block == other._block and self._definition.is_same(other._definition)
+
+    def __hash__(self) -> int:
+        return hash(self._block)
 
     def get(self, key: Key, default: Any = None) -> Any:
         """Returns the value of a field, or `default` where the message has no such field."""
         read = self._definition.readers.get(key)
         return read(self._block) if read else default
 
+    @overload
+    def values(self) -> ValuesView[Any]: ...
+    @overload
+    def values(self, key: Key) -> Tuple[Union[Number, str, bytes], ...]: ...
+    def values(self, key: Optional[Key] = None) -> Any:
+        """Returns what a field has as a tuple, however many items it has: its numbers without those that are None, its text or bytes;
+        nothing where the message has no such field. Of a name that neither the profile nor the message has it raises UnknownName.
+        Without a key it is what any mapping has: all values."""
+        if key is None:
+            return super().values()
+        if key not in self._definition.readers and not self._is_known(key):
+            raise self._missing(key)
+        value = self.get(key)
+        return tuple(item for item in value if item is not None) if isinstance(value, tuple) else () if value is None else (value,)
+
+    def native(self, key: Key) -> Value:
+        """Returns the value of the developer field that stands for a field of the profile, such as "power" or 7: of the first that has
+        one; where none has, the value of the field itself, or None. It raises UnknownName where the profile has no such name."""
+        number = self._definition.number_of(key)
+        if number is None:
+            raise self._missing(key)
+        for entry in self._definition.entries:
+            if entry.native == number and entry.index is not None:
+                value = entry.read(self._block)
+                if value is not None:
+                    return value
+        own: Value = self.get(key)
+        return own
+
+    @property
+    def times(self) -> Dict[Key, Optional[Time]]:
+        """The fields that are times, as `when` has them: `timestamp`, which is `time`, where the message has one; those that the profile
+        calls times, such as `start_time`; those of the caller's `names`. `local_timestamp` is one by the clock of the place, and has no
+        zone. None stands for no value."""
+        found = {key: _time_of(entry, self._block) for key, entry in self._definition.keys.items() if entry.type}
+        if self.time is not None:
+            found["timestamp"] = self.time
+        return found
+
+    @property
+    def position(self) -> Optional[Position]:
+        """The place in degrees; of a session or a lap that of its start. None where the message has none."""
+        entries = self._definition.position
+        if not entries:
+            return None
+        lat, long = (entry.read(self._block) for entry in entries)
+        return Position(degrees(lat), degrees(long)) if isinstance(lat, int) and isinstance(long, int) else None
+
     def unit(self, key: Key) -> Optional[str]:
         """Returns the unit of a field, as 'bpm', or None where nothing names one. It raises KeyError where there is no such field."""
-        return self._definition.by_key[key].unit
+        return self._entry(key).unit
 
     def field(self, key: Key) -> Field:
         """Returns a field. It raises KeyError where the message has no such field."""
-        return Field(self._block, self._definition.by_key[key])
+        return Field(self._block, self._entry(key))
+
+    def _entry(self, key: Key) -> Entry:
+        entry = self._definition.by_key.get(key)
+        if entry is None:
+            raise self._missing(key)
+        return entry
 
     @property
     def fields(self) -> Tuple[Field, ...]:
@@ -191,6 +321,13 @@ class Message:
 
     def __repr__(self) -> str:
         return f"<gazhdor.Message {self.name or self.number}: {self.as_dict()}>"
+
+    def _repr_html_(self) -> str:
+        """The fields as a table, for notebooks."""
+        rows = [(name, value, self._definition.labels[name].unit or "") for name, value in self.as_dict().items()]
+        cells = "".join("<tr>" + "".join(f"<td>{html.escape(str(cell))}</td>" for cell in row) + "</tr>" for row in rows)
+        title = html.escape(f"{self.name or f'message {self.number}'} {self.time or ''}".strip())
+        return f"<table><caption>{title}</caption><tr><th>field</th><th>value</th><th>unit</th></tr>{cells}</table>"
 
     def __reduce__(self) -> Any:
         return Message, (self._block, self._definition)

@@ -73,7 +73,7 @@ class Names:
     number of a field; in place of the name may stand `(name, unit, scale, offset, type)`, of which the last ones can be left out, and None
     leaves what is known. `{140: 'physiology'}` names a message. A text is UTF-8, with tabs between cells, and begins with the names of its
     columns, which are some of 'message', 'message name', 'field', 'field name', 'unit', 'scale', 'offset' and 'type'; an empty cell leaves
-    what is known, and a row without 'field' names a message alone.
+    what is known, a row without 'field' names a message alone, and a line that begins with '#' says nothing.
 
     `one | other` has what both have, and of what both name what `other` has. It raises ValueError, with the line of a text, for what can't
     be, and OSError where a path can't be opened.
@@ -81,6 +81,7 @@ class Names:
 
     def __init__(self, told: "Union[None, str, os.PathLike[str], Mapping[Any, Any]]" = None) -> None:
         self._messages: Dict[int, str] = {}
+        self._numbers: Dict[str, int] = {}
         self._fields: Dict[int, Dict[int, Named]] = {}
         if isinstance(told, Mapping):
             for key, value in told.items():
@@ -107,17 +108,17 @@ class Names:
             number = _number("a message", 0, 65535, key)
             if number_of(value, self) not in (None, number):
                 raise ValueError(f"{value!r} is the name of another message")
-            self._messages[number] = value
+            self._numbers.pop(self._messages.get(number, ""), None)
+            self._messages[number], self._numbers[value] = value, number
 
     def _read(self, text: str) -> None:
-        lines = text.splitlines()
-        head = lines[0].split("\t") if lines else []
+        lines = [(number, line) for number, line in enumerate(text.splitlines(), 1) if line and not line.startswith("#")]
+        head = lines[0][1].split("\t") if lines else []
         if "message" not in head or not set(head) <= set(_COLUMNS) or len(set(head)) < len(head):
             raise ValueError(f"the first line has 'message' and some of {', '.join(_COLUMNS[1:])}, with tabs between them")
-        for number, line in enumerate(lines[1:], 2):
+        for number, line in lines[1:]:
             try:
-                if line:
-                    self._read_row(dict(zip(head, line.split("\t"))), line.count("\t") + 1 - len(head))
+                self._read_row(dict(zip(head, line.split("\t"))), line.count("\t") + 1 - len(head))
             except ValueError as error:
                 raise ValueError(f"line {number}: {error}") from None
 
@@ -136,7 +137,7 @@ class Names:
     @property
     def messages(self) -> Dict[str, int]:
         """The numbers of the messages that are named, by their names."""
-        return {name: number for number, name in self._messages.items()}
+        return self._numbers
 
     def message(self, number: int) -> Optional[str]:
         """The name of a message, or None where it isn't named."""
@@ -151,7 +152,8 @@ class Names:
             return NotImplemented
         both = Names()
         for names in (self, other):
-            both._messages.update((number, name) for name, number in names.messages.items())
+            for number, name in names._messages.items():
+                both._take(number, name)
             for message, fields in names._fields.items():
                 both._fields.setdefault(message, {}).update(fields)
         return both
@@ -174,7 +176,7 @@ class _Packed(Names):
         self._file = file
 
     def __getattr__(self, name: str) -> Any:
-        if name not in ("_messages", "_fields"):
+        if name not in ("_messages", "_numbers", "_fields"):
             raise AttributeError(name)
         read = Names()
         read._read((packed(self._file) or b"").decode())

@@ -8,6 +8,7 @@ from ._answers import Answer
 from ._blocks import Blocks, Only, Walk
 from ._library import HAS_STREAMS, Opened, library, memory_of
 from ._messages import Message, messages_of
+from ._names import Told, names_of
 from ._sources import Source, bytes_of, go_back, opened, pieces, place_of
 from .errors import FitError, judge, judged
 
@@ -24,7 +25,7 @@ class Stream(Generic[Made]):
     """FIT files that come in pieces. It keeps what the next piece needs, and no more for more bytes.
 
     kind   what is made of them: "show", "table" and "to_csv" the text of the functions `show`, `table_text` and `to_csv`, piece by piece;
-           "messages" lists of `Message`, with `only` as for `messages`; "blocks" the bytes of docs/BLOCKS.md; "check" nothing, an empty str
+           "messages" lists of `Message`, with `only` and `names` as for `messages`; "blocks" the bytes of docs/BLOCKS.md; "check" nothing, an empty str
     files  how many files have ended so far
 
     All that `feed` and `finish` return, one after another, is what the function makes of all bytes. Where bytes are refused or end too soon,
@@ -39,14 +40,14 @@ class Stream(Generic[Made]):
         @overload
         def __init__(self: "Stream[bytes]", kind: Literal["blocks"]) -> None: ...
         @overload
-        def __init__(self: "Stream[List[Message]]", kind: Literal["messages"], only: Only = None) -> None: ...
+        def __init__(self: "Stream[List[Message]]", kind: Literal["messages"], only: Only = None, names: Told = None) -> None: ...
 
-    def __init__(self, kind: str, only: Only = None) -> None:
+    def __init__(self, kind: str, only: Only = None, names: Told = None) -> None:
         if kind not in _KINDS:
             raise ValueError(f"a stream is one of {', '.join(_KINDS)}, and not {kind!r}")
-        if only is not None and kind != "messages":
-            raise TypeError(f"a stream of {kind} has no messages of which there may be only some")
-        self._make = _maker(kind, only)
+        if (only is not None or names is not None) and kind != "messages":
+            raise TypeError(f"a stream of {kind} has no messages of which there may be only some, or other names")
+        self._make = _maker(kind, only, names)
         self._lock = threading.Lock()
         self._fault: Optional[Answer] = None
         self._opened: Optional[Opened] = Opened(_KINDS[kind])
@@ -108,13 +109,13 @@ class Stream(Generic[Made]):
         self.close()
 
 
-def _maker(kind: str, only: Only) -> Callable[[bytes], Any]:
+def _maker(kind: str, only: Only, names: Told) -> Callable[[bytes], Any]:
     """What makes a kind's result of the bytes of the library."""
     if kind == "blocks":
         return bytes
     if kind != "messages":
         return bytes.decode
-    walk = Walk(only)
+    walk = Walk(only, names_of(names))
     return lambda blocks: list(messages_of(blocks, walk.runs(blocks)))
 
 
@@ -160,12 +161,12 @@ def each(kind: str, source: Source, partial: bool, ahead: bool = True) -> Iterat
             judge(making.answer)
 
 
-def messages(source: Source, only: Only = None, partial: bool = False) -> Iterator[Message]:
+def messages(source: Source, only: Only = None, partial: bool = False, names: Told = None) -> Iterator[Message]:
     """Yields a Message for each data message; with `only`, a name or a number or several of these, for such messages alone, and makes
     nothing of the others. The source is read, piece by piece, as messages are asked for. With `partial` a fault is raised after the
     messages before it, else before the first message, as `Refused` or `Truncated`; of a file object that can't go back to where it was,
-    as a pipe, also after those before it."""
-    walk = Walk(only)
+    as a pipe, also after those before it. `names` has names, units and scales beside the profile's: a dict, the path of a text, or `Names`."""
+    walk = Walk(only, names_of(names))
     for blocks in each("blocks", source, partial):
         yield from messages_of(blocks, walk.runs(blocks))
 

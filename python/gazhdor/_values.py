@@ -1,7 +1,10 @@
 """What the items of a field stand for, and the field as its definition has it: an entry of docs/BLOCKS.md."""
 import struct
 from decimal import Decimal
-from typing import Any, Callable, Dict, Optional, Tuple, Union
+from typing import Any, Callable, Dict, List, Mapping, NamedTuple, Optional, Set, Tuple, Union, overload
+
+from ._names import RESERVED, Named, Names
+from ._profile import fields_of
 
 Number = Union[int, float]
 Value = Union[int, float, str, bytes, None, Tuple[Optional[Number], ...]]
@@ -21,9 +24,13 @@ def text_at(data: bytes, at: int) -> Optional[str]:
     return data[at : data.index(0, at)].decode("utf-8", "replace") or None
 
 
+NOT_NAMED = Named()
+
+
 class Entry:
     """What a definition says of a field: its name and unit, its number, and where and how its items stand in a message's block.
-    `index` is the developer data index of a developer field, else None."""
+    `index` is the developer data index of a developer field, else None; `native` the number of the field that it stands for, or None;
+    `type` is 'date_time' or 'local_date_time' of a number that is such a time. What `named` says goes before what the block says."""
 
     size: int
     number: int
@@ -32,19 +39,39 @@ class Entry:
     count: int
     decimals: int
     begins: int
-    scale: int
-    offset: int
+    scale: float
+    offset: float
     invalid: int
 
-    __slots__ = ("size", "name", "unit", "number", "index", "kind", "width", "count", "decimals", "begins", "scale", "offset", "invalid", "read")
+    __slots__ = (
+        "size", "name", "unit", "number", "index", "kind", "width", "count", "decimals", "begins", "scale", "offset", "invalid", "read",
+        "type", "native", "_told",
+    )  # fmt: skip
 
-    def __init__(self, data: bytes, at: int) -> None:
+    def __init__(self, data: bytes, at: int, named: Named = NOT_NAMED, native: Optional[int] = None) -> None:
         told = _ENTRY.unpack_from(data, at)
         self.size, unit_at, self.number, developer, index, _, self.kind, self.width, self.count = told[:9]
         self.decimals, self.begins, self.scale, self.offset, self.invalid = told[9:]
         self.name, self.unit = text_at(data, at + 32), text_at(data, at + unit_at)
         self.index: Optional[int] = index if developer else None
+        if named is not NOT_NAMED:
+            self._rename(named)
+        self.type = named.type if self.kind == UNSIGNED and self.width == 4 and self.count == 1 else None
+        self.native = native
+        self._told = data[at : at + self.size], named, native
         self.read = reader(self)
+
+    def _rename(self, named: Named) -> None:
+        self.name = self.name if named.name is None else named.name
+        self.unit = self.unit if named.unit is None else named.unit or None
+        if named.scale is not None or named.offset is not None:
+            self.scale = whole(self.scale if named.scale is None else named.scale)
+            self.offset = whole(self.offset if named.offset is None else named.offset)
+            self.decimals = decimals_of(self.scale, self.offset)
+
+    def __reduce__(self) -> Any:
+        data, named, native = self._told
+        return Entry, (data, 0, named, native)
 
     @property
     def key(self) -> Key:
@@ -70,6 +97,30 @@ class Entry:
     def float_code(self) -> str:
         """The letter for an item as a number."""
         return _FLOAT[self.width] if self.kind == FLOAT else self.item_code
+
+
+def whole(number: float) -> float:
+    """The same number, as an int where it is whole."""
+    return int(number) if isinstance(number, float) and number.is_integer() else number
+
+
+def decimals_of(scale: float, offset: float) -> int:
+    """How many decimals a number of this scale has at most; -1 where it may have ever more."""
+    if isinstance(scale, float) or isinstance(offset, float):
+        return -1
+    return next((count for count in range(64) if 10**count % scale == 0), -1)
+
+
+@overload
+def degrees(semicircles: int) -> float: ...
+@overload
+def degrees(semicircles: None) -> None: ...
+@overload
+def degrees(semicircles: Optional[int]) -> Optional[float]: ...
+def degrees(semicircles: Optional[int]) -> Optional[float]:
+    """Returns the degrees that the number of a field in semicircles stands for, such as `position_lat`: 2^31 are 180 degrees. None
+    stands for None."""
+    return None if semicircles is None else semicircles * 180 / 2**31
 
 
 def label(key: Key) -> str:
@@ -168,10 +219,14 @@ def read_exact(entry: Entry, value: Value, raw: Raw) -> Exact:
     """A value, but where whole numbers are scaled, with the decimals that the scale needs."""
     if entry.kind >= FLOAT or not entry.is_scaled or isinstance(raw, bytes) or value is None:
         return value
-    shift, ten = entry.scale * entry.offset, 10**entry.decimals
+    scale, offset = entry.scale, entry.offset
 
     def exact(item: int) -> Optional[Decimal]:
-        return None if item == entry.invalid else Decimal(f"{(item - shift) * ten // entry.scale}e-{entry.decimals}")
+        if item == entry.invalid:
+            return None
+        if entry.decimals < 0:
+            return Decimal(item) / Decimal(repr(scale)) - Decimal(repr(offset))
+        return Decimal(f"{int((item - scale * offset) * 10**entry.decimals // scale)}e-{entry.decimals}")
 
     return exact(raw) if isinstance(raw, int) else tuple(map(exact, raw))
 
@@ -181,40 +236,125 @@ def whole_number(begins: int, width: int, scale: int = 1) -> Entry:
     return Entry(_ENTRY.pack(48, 40, 0, 0, 0, 0, UNSIGNED, width, 1, 0, begins, scale, 0, 256**width - 1) + bytes(16), 0)
 
 
+Developer = Tuple[int, int]
+# The fields of the profile that are times. Field 253 is one in every message.
+_DATE, _LOCAL = "date_time", "local_date_time"
+_TYPES = {0: {4: _DATE}, 18: {2: _DATE}, 19: {2: _DATE}, 34: {5: _LOCAL}}
+_POSITIONS = (("position_lat", "position_long"), ("start_position_lat", "start_position_long"))
+
+
+class Told(NamedTuple):
+    """What is known of a definition but from its block: what the message is called, what is said of its fields, by their numbers, and
+    the numbers of the fields that its developer fields stand for."""
+
+    name: Optional[str] = None
+    fields: Mapping[int, Named] = {}
+    natives: Mapping[Developer, int] = {}
+
+    def of(self, keys: Set[Key]) -> "Told":
+        """What of it is about these fields."""
+        natives = {key: native for key, native in self.natives.items() if key in keys}
+        fields = {number: named for number, named in self.fields.items() if number in keys or number in natives.values()}
+        return Told(self.name, fields, natives)
+
+
+NOTHING = Told()
+
+
+def told(names: Optional[Names], message: int, natives: Mapping[Developer, int]) -> Told:
+    """What is known of the definitions of a message."""
+    name, fields = (names.message(message), names.fields(message)) if names else (None, {})
+    return Told(name, fields, natives) if name or fields or natives else NOTHING
+
+
+def developers(data: bytes) -> List[Developer]:
+    """The developer fields of a definition, by its block."""
+    fields, developer = struct.unpack_from("<HH", data, 34)
+    found: List[Developer] = []
+    at = _first_entry(data)
+    for _ in range(fields + developer if developer else 0):
+        if data[at + 5]:
+            found.append((data[at + 6], data[at + 4]))
+        at += data[at] + 256 * data[at + 1]
+    return found
+
+
+def _first_entry(data: bytes) -> int:
+    return 40 + (data.index(0, 40) - 40) // 8 * 8 + 8
+
+
 class Definition:
     """What the messages of a definition have: the number and name of the message, and its fields, each by its keys."""
 
-    __slots__ = ("data", "number", "name", "is_counted", "entries", "by_key", "readers", "keys", "labels")
+    __slots__ = ("data", "number", "name", "is_counted", "entries", "by_key", "readers", "keys", "labels", "made", "_told")
 
-    def __init__(self, data: bytes) -> None:
-        self.data = data
+    def __init__(self, data: bytes, told: Told = NOTHING) -> None:
+        self.data, self._told = data, told
         fields, developer, bits = struct.unpack_from("<HHH", data, 34)
         self.number: int = struct.unpack_from("<H", data, 32)[0]
-        self.name, self.is_counted = text_at(data, 40), bool(bits & 2)
-        at = 40 + (data.index(0, 40) - 40) // 8 * 8 + 8
-        entries = []
-        for _ in range(fields + developer):
-            entries.append(Entry(data, at))
-            at += entries[-1].size
-        self.entries: Tuple[Entry, ...] = tuple(entries)
+        self.name, self.is_counted = told.name or text_at(data, 40), bool(bits & 2)
+        self.entries = self._entries(fields + developer)
         # Of several fields with one key the first counts.
         self.by_key: Dict[Key, Entry] = {}
-        for entry in entries:
+        for entry in self.entries:
             self.by_key.setdefault(entry.key, entry)
-        for entry in entries:
-            if entry.name:
+        for entry in self.entries:
+            # A file may give a developer field a name that means something else. It has its numbers, then.
+            if entry.name and (entry.index is None or not RESERVED.fullmatch(entry.name)):
                 self.by_key.setdefault(entry.name, entry)
         self.readers: Dict[Any, Reader] = {key: entry.read for key, entry in self.by_key.items()}
         self.keys = self._keys()
         self.labels = {label(key): entry for key, entry in self.keys.items()}
+        # what is made of it when it is first needed
+        self.made: Dict[str, Any] = {}
+        if told is not NOTHING:
+            self._told = told.of({entry.key for entry in self.entries})
+
+    def _entries(self, count: int) -> Tuple[Entry, ...]:
+        data, (_, fields, natives) = self.data, self._told
+        types = _TYPES.get(self.number, {})
+        at = _first_entry(data)
+        entries: List[Entry] = []
+        for _ in range(count):
+            number, developer, index = data[at + 4], data[at + 5], data[at + 6]
+            if developer:
+                entries.append(Entry(data, at, native=natives.get((index, number))))
+            else:
+                named, kind = fields.get(number, NOT_NAMED), _DATE if number == 253 else types.get(number)
+                entries.append(Entry(data, at, named._replace(type=kind) if kind and not named.type else named))
+            at += entries[-1].size
+        return tuple(entries)
 
     def _keys(self) -> Dict[Key, Entry]:
         """Each field once, by its name where it has one of its own, and else by its number."""
         found: Dict[Key, Entry] = {}
         for entry in self.entries:
             if self.by_key[entry.key] is entry:
-                found[entry.name if entry.name and self.by_key[entry.name] is entry else entry.key] = entry
+                found[entry.name if entry.name and self.by_key.get(entry.name) is entry else entry.key] = entry
         return found
 
+    @property
+    def position(self) -> Optional[Tuple[Entry, Entry]]:
+        """The latitude and the longitude of its messages, in semicircles; of a session or a lap those of its start."""
+        for names in _POSITIONS:
+            lat, long = map(self.by_key.get, names)
+            if lat and long and all(entry.index is None and entry.kind == SIGNED and entry.width == 4 and entry.count == 1 for entry in (lat, long)):
+                return lat, long
+        return None
+
+    def number_of(self, key: Key) -> Optional[int]:
+        """The number of a field of its messages that isn't a developer field, also where they don't have it; None where nothing names it."""
+        if not isinstance(key, str):
+            return key if isinstance(key, int) else None
+        entry = self.by_key.get(key)
+        if entry and entry.index is None:
+            return entry.number
+        named = (number for number, named in self._told.fields.items() if named.name == key)
+        return next(named, fields_of(self.number).get(key))
+
+    def is_same(self, other: "Definition") -> bool:
+        """Whether messages of both, where they have the same bytes, are the same."""
+        return self is other or (self.data[32:] == other.data[32:] and self._told == other._told)
+
     def __reduce__(self) -> Any:
-        return Definition, (self.data,)
+        return Definition, (self.data, self._told)
