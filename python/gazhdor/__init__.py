@@ -23,17 +23,20 @@ refused, `ReadFailed` where a read fails, `NotBinary` where a file object gives 
 `import gazhdor` raises a `LibraryError` where the library can't be used. The variable GAZHDOR_LIBRARY names another libgazhdor.so
 than the one beside this file, or in the tree that of release/.
 
-From a shell: python3 -m gazhdor check|show|table|json|to-csv|from-csv [FILE..]
+From a shell: python3 -m gazhdor check|show|table|json|gpx|to-csv|from-csv|mend [FILE..]
 """
 import datetime
 import itertools
 from typing import Any, Iterator, NamedTuple, Optional, Tuple, Union
 
+from ._advice import advice as _advice
 from ._answers import Answer
 from ._columns import columns, frame, lists
+from ._gpx import gpx
 from ._library import VERSION as __version__
 from ._library import library as _library
 from ._library import text_of as _text_of
+from ._mend import mend
 from ._messages import Field, Message, Position, when
 from ._names import EXTRA, Named, Names
 from ._profile import UnknownName
@@ -67,6 +70,8 @@ __all__ = [
     "to_csv",
     "show",
     "from_csv",
+    "gpx",
+    "mend",
     "messages",
     "lists",
     "columns",
@@ -164,11 +169,15 @@ def show(source: Source, partial: bool = False) -> str:
 
 def from_csv(text: Union[str, bytes, bytearray, memoryview]) -> bytes:
     """Returns the bytes of the FIT file or files that a CSV text describes: a str, or its bytes in UTF-8, and no path. It raises
-    `TextRefused` where the text describes none, with the row and the column that aren't allowed."""
+    `TextRefused` where the text describes none, with the row and the column that aren't allowed, and what would do there."""
     if not isinstance(text, (str, bytes, bytearray, memoryview)):
         raise TypeError(f"from_csv takes a text or its bytes, and not {type(text).__name__}")
     answer, data = _text_of(_library.gazhdor_from_csv, text.encode() if isinstance(text, str) else bytes(text))
-    _judge(answer)
+    try:
+        _judge(answer)
+    except TextRefused as refused:
+        refused.advice = _advice(text if isinstance(text, str) else bytes(text).decode("utf-8", "replace"), refused.row, refused.column)
+        raise
     return data
 
 

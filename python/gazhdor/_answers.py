@@ -2,19 +2,8 @@
 import ctypes
 from typing import Optional
 
-_REASONS = (
-    "HeaderSize",
-    "Protocol",
-    "NoFit",
-    "Signature",
-    "HeaderSum",
-    "ReservedBit",
-    "UndefinedLocal",
-    "Overrun",
-    "Architecture",
-    "FileSum",
-    "TooManyFiles",
-)
+from ._reasons import REASONS
+
 GOOD, REFUSED, TRUNCATED, NO_MEMORY, TEXT, UNWRITABLE, CLOSED, NO_KIND = range(8)
 
 
@@ -27,6 +16,7 @@ class Answer(ctypes.Structure):
     place   the place of the byte that is refused, or where the bytes end too soon, counted from 0; else None
     reason  the name of the reason, as 'FileSum', where a byte is refused; else None
     row     of a text: the first row that isn't allowed where it is, counted from 1; else None
+    explanation  what is wrong, as a sentence; None where they are good
     column  of a text: its first cell that isn't allowed there, counted from 1; None where the row as a whole is refused
     """
 
@@ -55,7 +45,7 @@ class Answer(ctypes.Structure):
 
     @property
     def reason(self) -> Optional[str]:
-        return _REASONS[self._reason - 1] if self._status == REFUSED else None
+        return REASONS[self._reason - 1][0] if self._status == REFUSED else None
 
     @property
     def row(self) -> Optional[int]:
@@ -64,6 +54,25 @@ class Answer(ctypes.Structure):
     @property
     def column(self) -> Optional[int]:
         return self._column or None
+
+    @property
+    def explanation(self) -> Optional[str]:
+        return (
+            None,
+            f"The byte at {self.place} {REASONS[self._reason - 1][1]}." if self._status == REFUSED else None,
+            f"The bytes end at {self.place}, before the file does.",
+            "Memory was refused, which says nothing of the bytes.",
+            f"The cell in row {self.row}, column {self.column} isn't allowed there." if self.column else f"Row {self.row} isn't allowed there.",
+            "The rows are those of files that have no bytes: one is too long, or has zeros in place of a checksum of 0.",
+            "The stream is closed.",
+            "There is no such kind of stream.",
+        )[self._status]
+
+    def __eq__(self, other: object) -> bool:
+        return isinstance(other, Answer) and bytes(self) == bytes(other)
+
+    def __hash__(self) -> int:
+        return hash(bytes(self))
 
     def __bool__(self) -> bool:
         return self.good

@@ -2,13 +2,39 @@
 import datetime
 import json
 import math
-from typing import Any, Dict, Optional
+from typing import Any, Callable, List, NamedTuple, Optional, Tuple
 
 from ._messages import Message, Time
+from ._values import Definition, Reader
+
+_text: Callable[[Any], str] = json.JSONEncoder(ensure_ascii=False, allow_nan=False, separators=(",", ":")).encode
 
 
-def _time(time: Optional[Time]) -> Optional[str]:
-    return time.strftime("%Y-%m-%dT%H:%M:%SZ") if isinstance(time, datetime.datetime) else time
+class _Known(NamedTuple):
+    """What the lines of all messages of a definition have: their name and number; each field with its name before it; their units."""
+
+    front: str
+    fields: List[Tuple[str, Reader]]
+    units: str
+
+
+def _known(definition: Definition) -> _Known:
+    """What is made of a definition once."""
+    known: Optional[_Known] = definition.made.get("json")
+    if known is None:
+        name = _text(definition.name or f"message_{definition.number}")
+        units = {name: entry.unit for name, entry in definition.labels.items() if entry.unit}
+        fields = [(f",{_text(name)}:", entry.read) for name, entry in definition.labels.items()]
+        if fields:
+            fields[0] = fields[0][0][1:], fields[0][1]
+        known = definition.made["json"] = _Known(f'{{"message":{name},"number":{definition.number},"file":', fields, f'}},"units":{_text(units)}}}')
+    return known
+
+
+def _time(time: Optional[Time]) -> str:
+    if time is None:
+        return "null"
+    return f'"{time.isoformat()[:19]}Z"' if isinstance(time, datetime.datetime) else f'"{time}"'
 
 
 def _plain(value: Any) -> Any:
@@ -20,14 +46,27 @@ def _plain(value: Any) -> Any:
     return None if isinstance(value, float) and not math.isfinite(value) else value
 
 
+def _value(value: Any) -> str:
+    if value is None:
+        return "null"
+    if type(value) is int:
+        return repr(value)
+    if type(value) is float:
+        return repr(value) if math.isfinite(value) else "null"
+    return _text(_plain(value))
+
+
 def line(message: Message) -> str:
     """The message as a line of JSON, without its end: what it is and where, its time, what is accumulated, the values of its fields,
     and their units. A field without a name is `field_N`, or `dev_I_N`, I being its developer data index."""
-    told: Dict[str, Any] = {"message": message.name or f"message_{message.number}", "number": message.number}
-    told.update(file=message.file, place=message.place, local=message.local, time=_time(message.time))
-    for name in ("speed", "distance", "total_cycles", "accumulated_power"):
-        if getattr(message, name) is not None:
-            told[name] = getattr(message, name)
-    told["fields"] = {name: _plain(value) for name, value in message.as_dict().items()}
-    told["units"] = {name: entry.unit for name, entry in message._definition.labels.items() if entry.unit}
-    return json.dumps(told, ensure_ascii=False, allow_nan=False, separators=(",", ":"))
+    block, known = message._block, _known(message._definition)
+    parts = [known.front, f'{message.file},"place":{message.place},"local":{message.local},"time":{_time(message.time)}']
+    if message._definition.is_counted:
+        for name in ("speed", "distance", "total_cycles", "accumulated_power"):
+            amount = getattr(message, name)
+            if amount is not None:
+                parts.append(f',"{name}":{_value(amount)}')
+    parts.append(',"fields":{')
+    parts.extend([front + _value(read(block)) for front, read in known.fields])
+    parts.append(known.units)
+    return "".join(parts)

@@ -14,15 +14,26 @@ Kind = Union[str, int]
 _MOST_NAMES, _MOST_LETTERS = 1000, 100  # So many names are compared, and none that is longer.
 
 
+class Told(NamedTuple):
+    """What the profile says of a field: an item `raw` stands for `raw / scale - offset` units."""
+
+    name: str
+    unit: str
+    scale: int
+    offset: int
+
+
 class Known(NamedTuple):
-    """A message of the profile: its number, and the numbers of its fields by their names."""
+    """A message of the profile: its number, the numbers of its fields by their names, and what is said of them by their numbers."""
 
     number: int
     fields: Dict[str, int]
+    told: Dict[int, Told]
 
 
 # All messages have these two, which aren't in the table.
-_OF_ALL = {"timestamp": 253, "message_index": 254}
+_TOLD_OF_ALL = {253: Told("timestamp", "s", 1, 0), 254: Told("message_index", "", 1, 0)}
+_OF_ALL = {told.name: number for number, told in _TOLD_OF_ALL.items()}
 
 
 @functools.lru_cache(None)
@@ -31,9 +42,10 @@ def profile() -> Dict[str, Known]:
     found: Dict[str, Known] = {}
     lines = (packed("profile.tsv") or b"").decode().splitlines()
     for line in lines[1:]:
-        number, name, field, field_name = line.split("\t")[:4]
-        known = found.setdefault(name, Known(int(number), dict(_OF_ALL)))
+        number, name, field, field_name, unit, scale, offset = line.split("\t")
+        known = found.setdefault(name, Known(int(number), dict(_OF_ALL), dict(_TOLD_OF_ALL)))
         known.fields[field_name] = int(field)
+        known.told[int(field)] = Told(field_name, unit, int(scale), int(offset))
     return found
 
 
@@ -46,6 +58,17 @@ def fields_of(number: int) -> Dict[str, int]:
     """The fields that the profile names in a message: their numbers by their names."""
     known = _by_number().get(number)
     return known.fields if known else _OF_ALL
+
+
+def name_of(number: int) -> Optional[str]:
+    """The name of a message, or None."""
+    return next((name for name, known in profile().items() if known.number == number), None)
+
+
+def told_of(message: int, field: int) -> Optional[Told]:
+    """What the profile says of a field, or None."""
+    known = _by_number().get(message)
+    return (known.told if known else _TOLD_OF_ALL).get(field)
 
 
 class UnknownName(KeyError):
@@ -109,7 +132,7 @@ def number_of(message: Kind, names: "Optional[Names]" = None) -> Optional[int]:
 
 
 def _called(message: Kind) -> str:
-    return message if isinstance(message, str) else next((name for name, known in profile().items() if known.number == message), f"message {message}")
+    return message if isinstance(message, str) else name_of(message) or f"message {message}"
 
 
 def _known(message: Kind, names: "Optional[Names]") -> Dict[str, int]:

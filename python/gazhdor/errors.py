@@ -13,10 +13,11 @@ class FitError(ValueError):
         self.answer = answer
         self.place, self.reason, self.row, self.column = answer.place, answer.reason, answer.row, answer.column
         self.before: Any = None
+        self.advice: Optional[str] = None
 
     def __reduce__(self) -> "Tuple[Type[FitError], Tuple[Answer], Dict[str, Any]]":
         # As it is sent from one process to another.
-        return type(self), (self.answer,), {"before": self.before}
+        return type(self), (self.answer,), {"before": self.before, "advice": self.advice}
 
 
 class Refused(FitError):
@@ -28,7 +29,11 @@ class Truncated(FitError):
 
 
 class TextRefused(FitError):
-    """A text that `from_csv` can't read, at `row` and `column`, or whose files have no bytes; then these are None."""
+    """A text that `from_csv` can't read, at `row` and `column`, or whose files have no bytes; then these are None. `advice` says what would
+    do there, as '408.1: steps of 0.2', or is None."""
+
+    def __str__(self) -> str:
+        return f"{self.answer}: {self.advice}" if self.advice else str(self.answer)
 
 
 class NotBinary(TypeError):
