@@ -2,6 +2,7 @@
 # tabs between them: the numbers and the names of message and field, the unit, the scale and the offset, or nothing each.
 use strict;
 use warnings;
+no warnings 'once';
 
 unshift @INC, shift @ARGV;
 require Garmin::FIT;

@@ -291,7 +291,7 @@ class Shell(unittest.TestCase):
             self.assertEqual((done.returncode, done.stderr), (1, b"-: truncated at byte 2000\n"))
             self.assertTrue(0 < len(done.stdout) < len(whole) and whole.startswith(done.stdout))
         done = run("-m", "gazhdor", "from-csv", input=b"row,a,b,c,d,e,f\n")
-        self.assertEqual((done.returncode, done.stdout, done.stderr), (1, b"", b"-: row 2 refused\n"))
+        self.assertEqual((done.returncode, done.stdout, done.stderr), (1, b"", b"-: row 2 refused: the text ends where a row must follow that begins with file\n"))
         done = run("-m", "gazhdor", "table", input=b"\x0d")
         self.assertEqual((done.returncode, done.stderr), (1, b"-: refused at byte 0: HeaderSize\n"))
 

@@ -1,6 +1,6 @@
 """Whether the messages of the module gazhdor are those that another program reads: the module Garmin::FIT for Perl, which Debian's pytrainer
 has. It is asked for each message and field of the ride, and of recordings that bench/recording.c makes: numbers, names, items, and values
-where its profile has a scale."""
+where its profile has a scale. And what the names of gazhdor.EXTRA say is compared with its profile, which is an older one."""
 import math
 import os
 import re
@@ -93,6 +93,32 @@ class Garmin(unittest.TestCase):
                 self.assertGreater(messages, 3)
                 if kind != "strings":
                     self.assertGreater(scaled, 3)
+
+
+# Of units Garmin::FIT writes some in its own way, and it has units of some fields to which Garmin's profile gives none.
+SPELLINGS = {("percent", "%"), ("C", "deg.C"), ("s", "")}
+ITS_OWN = {(7, 1), (7, 2), (7, 3)}
+# The bytes of this field are ten numbers of 12 bits each. What Garmin::FIT says of its scale and unit is said of these.
+PACKED = {(132, 10)}
+
+
+class Extra(unittest.TestCase):
+    def test_extra(self):
+        said = subprocess.run(["perl", "tests/garmin_profile.pl", FOLDER], stdout=subprocess.PIPE, check=True, encoding="latin-1").stdout
+        rows = [line.split("\t") for line in said.splitlines()]
+        compared = 0
+        for message, message_name, field, name, unit, scale, offset in rows:
+            place = int(message), int(field)
+            named = gazhdor.EXTRA.fields(place[0]).get(place[1])
+            if named is None or named.name is None or name.startswith("unknown"):
+                continue
+            of = gazhdor.EXTRA.message(place[0])
+            self.assertEqual((named.name, of or message_name), (name, message_name), place)
+            if place not in PACKED:
+                self.assertEqual((float(named.scale or 1), float(named.offset or 0)), (float(scale or 1), float(offset or 0)), (place, name))
+                self.assertTrue((named.unit or "") == unit or (named.unit or "", unit) in SPELLINGS or place in ITS_OWN, (place, name, named.unit, unit))
+            compared += 1
+        self.assertGreater(compared, 350)
 
 
 unittest.main()

@@ -10,7 +10,7 @@ from ._values import Definition, told
 Only = Union[None, str, int, Iterable[Kind]]
 Blocks = Any  # bytes, or what else has slices that are bytes
 
-DEFINITION, MESSAGE = 2, 3
+HEADER, DEFINITION, MESSAGE = 1, 2, 3
 _MOST = 1 << 20  # So many bytes of definitions are kept, beside the current ones.
 _FRONT = struct.Struct("<IBBB").unpack_from
 _NUMBER = struct.Struct("<H").unpack_from
@@ -88,6 +88,8 @@ class Walk:
                 length *= count
             elif kind == DEFINITION:
                 self._define(first, blocks[at : at + length])
+            elif kind == HEADER:
+                self._natives, self._describing = Natives(), {}
             at += length
 
     def _define(self, local: int, data: bytes) -> None:

@@ -1,0 +1,317 @@
+"""What the module gazhdor does for those who write programs with it: messages as mappings, times and places, the fields that developer fields
+stand for, names that nothing has, and the caller's own names. Files are written here, as the FIT protocol has them."""
+import copy
+import datetime
+import decimal
+import html.parser
+import math
+import os
+import pickle
+import sys
+import tempfile
+import unittest
+
+import gazhdor
+from python_fits import *
+
+RIDE = "examples/ride.fit"
+UTC = datetime.timezone.utc
+# The description of a developer field with the message (14) and the field (15) that it stands for.
+NATIVE = define(14, 206, [(0, 1, UINT8), (1, 1, UINT8), (2, 1, UINT8), (3, 12, STRING), (8, 6, STRING), (14, 2, UINT16), (15, 1, UINT8)])
+
+
+def native(index, number, code, name, message, field):
+    return bytes([14, index, number, code]) + name.ljust(12, b"\0") + b"watts\0" + packed("<HB", message, field)
+
+
+def one(*fields, number=20, developer=None, before=(), names=None):
+    """The last message of a file: fields are (number, base type, bytes), developer fields (number, index, bytes)."""
+    definition = define(0, number, [(n, len(data), code) for n, code, data in fields], developer and [(n, len(data), index) for n, index, data in developer])
+    data = b"".join(data for _, _, data in [*fields, *(developer or [])])
+    *_, message = gazhdor.messages(fit(*before, definition, b"\0" + data), names=names)
+    return message
+
+
+class Mapping(unittest.TestCase):
+    def test_mapping(self):
+        before = DESCRIBE, describe(0, 0, UINT16, b"Form power", b"W"), describe(1, 3, UINT8, b"heart_rate", b"")
+        m = one((3, UINT8, b"\x78"), (7, UINT16, b"\xff\xff"), (200, UINT8, b"\5"), developer=[(0, 0, packed("<H", 300)), (3, 1, b"\1")], before=before)
+        wanted = {"heart_rate": 120, "power": None, 200: 5, "Form power": 300, (1, 3): 1}
+        self.assertEqual(dict(m), wanted)
+        self.assertEqual((list(m), list(m.keys()), list(m.items()), list(m.values()), len(m)), (list(wanted), list(wanted), list(wanted.items()), list(wanted.values()), 5))
+        self.assertEqual(({**m}, [key in m for key in ("power", 7, (0, 0), "cadence", 4)]), (wanted, [True, True, True, False, False]))
+        self.assertTrue(all(m[key] == value for key, value in m.items()))
+
+    def test_equal(self):
+        first, second = list(gazhdor.messages(RIDE)), list(gazhdor.messages(RIDE))
+        self.assertEqual((first, [m.fields for m in first], {*first}), (second, [m.fields for m in second], {*second}))
+        self.assertEqual(len({*first}), len(first))
+        self.assertNotEqual(first[0], first[1])
+        self.assertNotEqual(first[0], dict(first[0]))
+        power, other = (one((7, UINT16, packed("<H", watts))) for watts in (200, 201))
+        self.assertEqual((power == other, power.field(7) == other.field(7)), (False, False))
+        self.assertEqual(power.field(7), one((3, UINT8, b"\1"), (7, UINT16, packed("<H", 200))).field(7))
+        # the same bytes with other names, or as another kind of number, are another message
+        self.assertNotEqual(one((99, UINT8, b"\1")), one((99, UINT8, b"\1"), names={(20, 99): "mine"}))
+        self.assertNotEqual(one((99, UINT8, b"\1")).field(99), one((99, 1, b"\1")).field(99))
+        truncated = [gazhdor.check(b"\x0e\x10" + bytes(count)) for count in (0, 0, 1)]
+        self.assertEqual((truncated[0] == truncated[1], truncated[0] == truncated[2], len({*truncated}), truncated[0] == "truncated"), (True, False, 2, False))
+
+    def test_sent(self):
+        before = NATIVE, native(0, 5, UINT16, b"Power", 20, 7)
+        m = one((3, UINT8, b"\x78"), (200, UINT16, b"\1\2"), developer=[(5, 0, packed("<H", 300))], before=before, names={(20, 200): ("mine", "km", 10)})
+        for sent in (pickle.loads(pickle.dumps(m)), copy.deepcopy(m)):
+            self.assertEqual((sent, sent["mine"], sent.unit("mine"), sent.native("power"), sent.field("Power").native), (m, 51.3, "km", 300, 7))
+        for field in m.fields:
+            sent = pickle.loads(pickle.dumps(field))
+            self.assertEqual((sent, sent.name, sent.value, sent.raw, sent.unit, sent.native), (field, field.name, field.value, field.raw, field.unit, field.native))
+
+    def test_page(self):
+        """A table for notebooks, in which the texts of a file are texts."""
+        m = one((3, UINT8, b"\x78"), developer=[(0, 0, b"<b>&\0")], before=(DESCRIBE, describe(0, 0, STRING, b"<script>", b'"W"')))
+        found = []
+
+        class Reader(html.parser.HTMLParser):
+            def handle_starttag(self, tag, attributes):
+                found.append((tag, attributes))
+
+            def handle_data(self, data):
+                found.append(data)
+
+        Reader().feed(m._repr_html_())
+        self.assertEqual({part for part in found if isinstance(part, tuple) and (part[1] or part[0] not in ("table", "caption", "tr", "th", "td"))}, set())
+        self.assertEqual([part for part in found if isinstance(part, str)], ["record", "field", "value", "unit", "heart_rate", "120", "bpm", "<script>", "<b>&", '"W"'])
+
+
+class Values(unittest.TestCase):
+    def test_values(self):
+        """However many intervals a message has: five, three of five, one, none."""
+        for items, wanted in (((800, 810, 790, 65535, 65535), (0.8, 0.81, 0.79)), ((800,), (0.8,)), ((65535,), ()), ((), ())):
+            m = one((0, UINT16, packed(f"<{len(items)}H", *items)), number=78)
+            self.assertEqual((m.values("time"), m.values(0)), (wanted, wanted))
+        m = one((0, STRING, b"ride\0"), (1, BYTE, b"\1\2"), (2, STRING, b"\0"), number=31)
+        self.assertEqual([m.values(key) for key in (0, 1, 2, 3, (0, 1))], [("ride",), (b"\1\2",), (), (), ()])
+        self.assertEqual(one((3, UINT8, b"\x78")).values("cadence"), ())
+        with self.assertRaises(gazhdor.UnknownName):
+            one((3, UINT8, b"\x78")).values("cadense")
+
+    def test_times(self):
+        begin, local = 1000000000, 1000007200
+        wanted = datetime.datetime(2021, 9, 8, 1, 46, 40, tzinfo=UTC)
+        m = one((253, UINT32, packed("<I", begin)), (2, UINT32, packed("<I", begin - 40)), (7, UINT32, packed("<I", 1)), number=18)
+        self.assertEqual(m.times, {"timestamp": wanted, "start_time": wanted - datetime.timedelta(seconds=40)})
+        m = one((253, UINT32, packed("<I", begin)), (5, UINT32, packed("<I", local)), number=34)
+        self.assertEqual(m.times["local_timestamp"], datetime.datetime(2021, 9, 8, 3, 46, 40))
+        self.assertIsNone(m.times["local_timestamp"].tzinfo)
+        # a time of the device's own, and none
+        self.assertEqual(one((2, UINT32, packed("<I", 77)), number=19).times, {"start_time": "system+77"})
+        self.assertEqual(one((253, UINT32, b"\xff" * 4), (2, UINT32, b"\xff" * 4), number=19).times, {"timestamp": None, "start_time": None})
+        # the time of a compressed header is one meaning of `timestamp` with that of `lists`
+        *_, m = gazhdor.messages(SMALL)
+        self.assertEqual((m.times["timestamp"], gazhdor.lists(SMALL, "record", ["timestamp"])["timestamp"][-1]), (m.time, m.time))
+        self.assertEqual((gazhdor.when(None), one((4, UINT32, packed("<I", begin)), number=0).times), (None, {"time_created": wanted}))
+
+    def test_places(self):
+        self.assertEqual([gazhdor.degrees(number) for number in (0, 2**30, -(2**31), None)], [0.0, 90.0, -180.0, None])
+        lat, long = packed("<i", 2**29), packed("<i", -(2**30))
+        self.assertEqual(one((0, SINT32, lat), (1, SINT32, long)).position, (45.0, -90.0))
+        self.assertEqual(one((3, SINT32, lat), (4, SINT32, long), number=18).position.latitude, 45.0)
+        for fields in (((0, SINT32, lat),), ((0, SINT32, lat), (1, SINT32, b"\xff\xff\xff\x7f")), ((0, UINT32, lat), (1, UINT32, long)), ((0, SINT32, lat * 2), (1, SINT32, long * 2))):
+            self.assertIsNone(one(*fields).position)
+        rows = list(gazhdor.table(RIDE))
+        for row, m in zip(rows, gazhdor.messages(RIDE, only="record")):
+            self.assertTrue(math.isclose(row.position_lat, m.position.latitude, abs_tol=6e-8) and math.isclose(row.position_long, m.position.longitude, abs_tol=6e-8))
+
+
+class Natives(unittest.TestCase):
+    def test_native(self):
+        before = NATIVE, native(0, 5, UINT16, b"Power", 20, 7), native(0, 6, UINT16, b"Other", 65535, 255), native(0, 7, UINT16, b"Laps", 19, 7)
+        developer = [(5, 0, packed("<H", 300)), (6, 0, packed("<H", 1)), (7, 0, packed("<H", 2))]
+        m = one((3, UINT8, b"\x78"), developer=developer, before=before)
+        self.assertEqual([f.native for f in m.fields], [None, 7, None, None])
+        self.assertEqual((m.native("power"), m.native(7), m.native("heart_rate"), m.native("cadence")), (300, 300, 120, None))
+        # the developer field stands for it, also where the message has one of its own; not where it has no value
+        self.assertEqual(one((7, UINT16, packed("<H", 200)), developer=developer, before=before).native("power"), 300)
+        self.assertEqual(one((7, UINT16, packed("<H", 200)), developer=[(5, 0, b"\xff\xff")], before=before).native("power"), 200)
+        for wrong in ("powr", "Power"):
+            with self.assertRaises(KeyError):
+                m.native(wrong)
+
+    def test_descriptions(self):
+        """The last description before the definition counts, in its own file; one without field 15 takes it away."""
+        define_it, message = define(0, 20, [], [(5, 2, 0)]), b"\0\x2c\1"
+        records = (
+            NATIVE, native(0, 5, UINT16, b"Power", 65535, 7), define_it, message, native(0, 5, UINT16, b"Power", 20, 3), message, define_it, message,
+            DESCRIBE, describe(0, 5, UINT16, b"Power", b"W"), define_it, message,
+        )
+        chain = fit(*records) + fit(define_it, message)
+        for source in (chain, chain * 2):
+            found = [m.fields[0].native for m in gazhdor.messages(source, only="record")]
+            self.assertEqual(found, len(found) // 5 * [7, 7, 3, None, None])
+        stream = gazhdor.Stream("messages", only=20)
+        pieces = [m for byte in chain for m in stream.feed(bytes([byte]))] + stream.finish()
+        self.assertEqual(pieces, list(gazhdor.messages(chain, only=20)))
+
+    def test_many_descriptions(self):
+        """The work grows with the file, and not with how many descriptions and definitions it has together."""
+        before = [NATIVE, *(native(index, number, UINT8, b"", 20, 7) for index in range(200) for number in range(250))]
+        file = fit(*before, *(define(0, 20, [], [(k % 250, 1, k % 200)]) + b"\0\1" for k in range(4000)))
+        begin = os.times().user
+        self.assertEqual({m.native(7) for m in gazhdor.messages(file, only=20)}, {1})
+        self.assertLess(os.times().user - begin, 20)
+
+
+class Unknown(unittest.TestCase):
+    def said(self, call, name, nearest):
+        with self.assertRaises(gazhdor.UnknownName) as caught:
+            call()
+        error = pickle.loads(pickle.dumps(caught.exception))
+        self.assertIsInstance(error, KeyError)
+        self.assertEqual((error.name, error.nearest), (name, nearest))
+        for part in (name, nearest or ""):
+            self.assertIn(part, str(error))
+
+    def test_messages(self):
+        self.said(lambda: list(gazhdor.messages(RIDE, only="laps")), "laps", "lap")
+        self.said(lambda: gazhdor.Stream("messages", only=["lap", "recrod"]), "recrod", "record")
+        self.said(lambda: gazhdor.lists(RIDE, "Record"), "Record", "record")
+        self.said(lambda: list(gazhdor.messages(RIDE, only="message_140")), "message_140", None)
+        self.assertEqual(list(gazhdor.messages(RIDE, only=[140, "hrv"])), [])
+
+    def test_fields(self):
+        m = one((3, UINT8, b"\x78"), developer=[(0, 0, b"\1\0")], before=(DESCRIBE, describe(0, 0, UINT16, b"Form power", b"W")))
+        self.said(lambda: m["hart_rate"], "hart_rate", "heart_rate")
+        self.said(lambda: m.unit("Form_power"), "Form_power", "Form power")
+        self.said(lambda: m.field("cadance"), "cadance", "cadence")
+        # known, but not there
+        for key in ("cadence", 4, (0, 1), (9, 9), None):
+            with self.assertRaises(KeyError) as caught:
+                m[key]
+            self.assertNotIsInstance(caught.exception, gazhdor.UnknownName)
+        self.assertEqual((m.get("hart_rate"), m.get("hart_rate", 0), "hart_rate" in m), (None, 0, False))
+
+    def test_hostile_names(self):
+        """A file of very many long names: what is compared with them is bounded."""
+        before = [DESCRIBE, *(describe(index, number, UINT8, f"n{index}_{number}".encode().ljust(11, b"x"), b"") for index in range(4) for number in range(250))]
+        m = one(developer=[(number, 0, b"\1") for number in range(250)], before=before)
+        begin = os.times().user
+        with self.assertRaises(gazhdor.UnknownName) as caught:
+            m["n" * 100000]
+        self.assertGreater(len(str(caught.exception)), 100)
+        self.assertLess(os.times().user - begin, 5)
+
+
+class Names(unittest.TestCase):
+    def test_dict(self):
+        fields = (3, UINT8, b"\x78"), (200, UINT16, packed("<H", 500)), (201, SINT16, packed("<h", -7))
+        names = {("record", 200): ("left", "mm", 10), (20, 201): ("rise", "m", 2, 100), ("record", 3): "pulse"}
+        m = one(*fields, names=names)
+        self.assertEqual(dict(m), {"pulse": 120, "left": 50, "rise": -103.5})
+        self.assertEqual([m.unit(key) for key in m], ["bpm", "mm", "m"])
+        self.assertEqual([str(f.exact) for f in m.fields], ["120", "50.0", "-103.5"])
+        self.assertEqual((m[200], m.field("left").raw), (50, 500))
+        # a scale that has no end as decimals, and one for several numbers, of which one is none
+        m = one((69, UINT8, b"\x10\xff"), (70, UINT8, b"\x07"), names={(20, 69): ("phase", "degrees", 0.7111111), (20, 70): ("third", None, 3)})
+        self.assertEqual((m["phase"][1], m["third"]), (None, 7 / 3))
+        self.assertAlmostEqual(m["phase"][0], 22.5, places=5)
+        self.assertEqual(m.field("third").exact, decimal.Decimal(7) / 3)
+
+    def test_messages(self):
+        source = fit(define(0, 140, [(1, UINT8, UINT8)]), b"\0\5\0", define(1, 132, [(0, 1, UINT8)]), b"\1\7")
+        names = {140: "physiology", (140, 1): "effect"}
+        (m,) = gazhdor.messages(source, only="physiology", names=names)
+        self.assertEqual((m.name, m.number, m["effect"][0]), ("physiology", 140, 5))
+        with self.assertRaises(gazhdor.UnknownName):
+            list(gazhdor.messages(source, only="physiology"))
+        stream = gazhdor.Stream("messages", names=names)
+        self.assertEqual([m.name for m in stream.feed(source) + stream.finish()], ["physiology", None])
+        with self.assertRaises(TypeError):
+            gazhdor.Stream("table", names=names)
+
+    def text(self, lines, **more):
+        with tempfile.NamedTemporaryFile("w", suffix=".tsv", encoding="utf-8", **more) as file:
+            file.write("\n".join(lines))
+            file.flush()
+            return gazhdor.Names(file.name), one((200, UINT32, packed("<I", 1000000000)), names=file.name)
+
+    def test_text(self):
+        names, m = self.text(["\ufeff# mine", "message\tmessage name\tfield\tfield name\tunit\tscale\toffset\ttype", "", "record\t\t200\tbegan\ts\t\t\tdate_time", "140\tphysiology"])
+        self.assertEqual((names.messages, m.times, m.unit("began")), ({"physiology": 140}, {"began": datetime.datetime(2021, 9, 8, 1, 46, 40, tzinfo=UTC)}, "s"))
+        for lines, said in (
+            (["field\tname"], "first line"), (["message\tfield\tfield name", "records\t1\tx"], "line 2: no message is named 'records'"),
+            (["message\tfield\tscale", "20\t1\t0"], "line 2: a scale can't be 0"), (["message\tfield\tscale", "# it", "20\t1\tnan"], "line 3: a scale can't be nan"),
+            (["message\tfield", "20\t256"], "line 2: a field is 0 to 255"), (["message\tfield", "20\t1\tx"], "line 2: it has more cells"),
+            (["message\tfield\tfield name", "20\t1\t.time"], "line 2: '.time' can't be a name"), (["message\tfield\ttype", "20\t1\tdate"], "line 2: a type is"),
+        ):
+            with self.assertRaises(ValueError) as caught:
+                self.text(lines)
+            self.assertIn(said, str(caught.exception))
+
+    def test_wrong(self):
+        for told, kind in (
+            ({(20, 1): ""}, ValueError), ({(20, 1): "timestamp"}, ValueError), ({(20, 1): "field_7"}, ValueError), ({(20, 1): "a\x1b[2J"}, ValueError),
+            ({(20, 1): ("x", "m", math.inf)}, ValueError), ({(20, 1): ("x", "m", "5")}, TypeError), ({("records", 1): "x"}, ValueError), ({(70000, 1): "x"}, ValueError),
+            ({140: "record"}, ValueError), ({140: "x", 141: "x"}, ValueError), ({(20, "3"): "x"}, TypeError), ({(20, 1): ("x", 5)}, TypeError), ({140: None}, TypeError),
+        ):
+            with self.assertRaises(kind, msg=told):
+                gazhdor.Names(told)
+        with self.assertRaises(OSError):
+            list(gazhdor.messages(RIDE, names="/nowhere/names.tsv"))
+
+    def test_names_of_files(self):
+        """What a file calls a developer field hides no other value: a name that means something else isn't its key."""
+        names = (b"field_5", b".seconds", b"timestamp", b"dev_0_9", b"message_9")
+        before = [DESCRIBE, *(describe(0, number, UINT8, name, b"") for number, name in enumerate(names))]
+        m = one((5, UINT32, packed("<I", 700)), (99, UINT8, b"\7"), developer=[(number, 0, bytes([number])) for number in range(5)], before=before, number=65280)
+        self.assertEqual(dict(m), {5: 700, 99: 7, **{(0, number): number for number in range(5)}})
+        self.assertEqual((m.as_dict()["field_5"], m.as_dict()["dev_0_0"], len(m.as_dict()), m.get("timestamp")), (700, 0, 7, None))
+        self.assertEqual([f.name for f in m.fields][2:], [name.decode() for name in names])
+
+    def test_both(self):
+        both = gazhdor.Names({(20, 1): "one", (20, 2): "two", 140: "x"}) | gazhdor.Names({(20, 2): ("three", "m"), 140: "y"})
+        self.assertEqual(({number: named.name for number, named in both.fields(20).items()}, both.messages), ({1: "one", 2: "three"}, {"y": 140}))
+
+
+class Extra(unittest.TestCase):
+    def test_extra(self):
+        """Off unless it is asked for. Scales are those of the public profile: a phase of 64 is a quarter of a turn."""
+        fields = (30, UINT8, b"\x37"), (53, UINT8, b"\x40"), (69, UINT8, b"\x40\x80"), (81, UINT8, b"\xc8"), (83, UINT16, packed("<H", 812))
+        self.assertEqual(list(one(*fields)), [30, 53, 69, 81, 83])
+        m = one(*fields, names=gazhdor.EXTRA)
+        self.assertEqual((m["left_right_balance"], m["fractional_cadence"], m["battery_soc"], m["vertical_ratio"]), (0x37, 0.5, 100, 8.12))
+        self.assertEqual(([round(angle, 4) for angle in m["left_power_phase"]], m.unit("left_power_phase")), ([90.0, 180.0], "degrees"))
+        box = [(number, SINT32, packed("<i", 2**29)) for number in range(29, 33)]
+        self.assertEqual(list(one(*box, number=18, names=gazhdor.EXTRA)), ["nec_lat", "nec_long", "swc_lat", "swc_long"])
+        length = one((2, UINT32, packed("<I", 1000000000)), (5, UINT16, packed("<H", 14)), number=101, names=gazhdor.EXTRA)
+        self.assertEqual((length.name, length["total_strokes"], length.times["start_time"].year), ("length", 14, 2021))
+        beat = one((253, UINT32, packed("<I", 1)), (0, UINT16, packed("<H", 16384)), (9, UINT32, packed("<I", 512)), number=132, names=gazhdor.EXTRA)
+        self.assertEqual((beat.name, beat["fractional_timestamp"], beat["event_timestamp"]), ("hr", 0.5, 0.5))
+
+    def test_table(self):
+        """It has what recordings have most, nothing that the proved profile has, and each name once in a message."""
+        extra = gazhdor.EXTRA
+        wanted = {20: [30, 31, 40, *range(43, 48), 53, 54, 57, *range(67, 73), *range(81, 86), 87], 18: range(29, 33), 19: range(27, 31)}
+        wanted.update({101: [0, 1, 2, 3, 4, 5, 6, 7, 9, 12], 132: [0, 1, 6, 9, 10], 216: range(16)})
+        for message, fields in wanted.items():
+            self.assertEqual(set(fields) - set(extra.fields(message)), set(), message)
+        with open("profile/fields.tsv", encoding="utf-8") as file:
+            rows = [line.split("\t") for line in file.read().splitlines()[1:]]
+        known = {(int(row[0]), int(row[2])): row[3] for row in rows}
+        messages = {int(row[0]) for row in rows} | {number for number in extra.messages.values()}
+        for message in messages:
+            fields = extra.fields(message)
+            self.assertEqual([number for number in fields if (message, number) in known or number == 253], [])
+            names = [named.name for named in fields.values() if named.name] + [name for (of, _), name in known.items() if of == message]
+            self.assertEqual(len(names), len(set(names)), message)
+        self.assertIs(pickle.loads(pickle.dumps(extra)), extra)
+
+    def test_says_what_it_is(self):
+        path = os.path.join(os.path.dirname(gazhdor.__file__), "extra.tsv")
+        with open(path, encoding="utf-8") as file:
+            said = "".join(line[2:] for line in file if line.startswith("#"))
+        self.assertRegex(said, "no part of what is proved")
+        self.assertRegex(said, r"release \d+\.\d+ of\s+the FIT SDK")
+
+
+if __name__ == "__main__":
+    unittest.main()
