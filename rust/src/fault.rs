@@ -1,5 +1,6 @@
 //! What is wrong with bytes or a text, and where.
 use crate::library::{Answer, Text};
+use crate::reason::{Reason, REASONS};
 use std::error::Error;
 use std::fmt::{self, Display, Formatter};
 
@@ -63,47 +64,6 @@ impl Display for Fault {
 }
 
 impl Error for Fault {}
-
-/// Why a byte is refused.
-#[derive(Debug, Clone, Copy, PartialEq, Eq, Hash)]
-pub enum Reason {
-    /// It begins a header of 0 to 11 or 13 bytes.
-    HeaderSize = 1,
-    /// It has a major version of the protocol above 2.
-    Protocol,
-    /// It leaves 1 to 5 bytes of the data section, which no records can fill.
-    NoFit,
-    /// It isn't that of `.FIT`.
-    Signature,
-    /// It begins neither the header's checksum nor two zeros.
-    HeaderSum,
-    /// It is a normal record header with bit 4 set, or one of a data message with bit 5 set.
-    ReservedBit,
-    /// It is the record header of a data message whose local message type isn't defined.
-    UndefinedLocal,
-    /// It begins a message, or is a number of fields, for which too few bytes of the data section remain.
-    Overrun,
-    /// It is an architecture, and neither 0 nor 1.
-    Architecture,
-    /// It isn't that of the closing checksum.
-    FileSum,
-    /// It follows the 16,777,215th file of a chain.
-    TooManyFiles,
-}
-
-const REASONS: [Reason; 11] = [
-    Reason::HeaderSize,
-    Reason::Protocol,
-    Reason::NoFit,
-    Reason::Signature,
-    Reason::HeaderSum,
-    Reason::ReservedBit,
-    Reason::UndefinedLocal,
-    Reason::Overrun,
-    Reason::Architecture,
-    Reason::FileSum,
-    Reason::TooManyFiles,
-];
 
 impl Display for Reason {
     fn fmt(&self, f: &mut Formatter<'_>) -> fmt::Result {

@@ -1,5 +1,6 @@
 //! A field of a message, and its values.
 use crate::blocks::{eight, four, some, text, two, up_to_zero};
+use crate::names::{Named, Names};
 use std::fmt::{self, Debug, Formatter};
 use std::str;
 
@@ -34,6 +35,8 @@ pub struct Field<'a> {
     entry: &'a [u8],
     /// All its items, in little endian; no bytes where the message doesn't have them.
     items: &'a [u8],
+    /// What is said of it beside the profile.
+    named: Option<&'a Named>,
 }
 
 /// An item of a field, just as it is in the file, also one that stands for no value.
@@ -75,12 +78,19 @@ impl<'a> Field<'a> {
     pub(crate) fn new(entry: &'a [u8], message: &'a [u8]) -> Field<'a> {
         let first = four(entry, 12) as usize;
         let end = first.saturating_add(usize::from(entry[9]) * usize::from(entry[10]));
-        Field { entry, items: message.get(first..end).unwrap_or(&[]) }
+        Field { entry, items: message.get(first..end).unwrap_or(&[]), named: None }
+    }
+
+    /// The field by what these names say of it, in a message of this number.
+    pub(crate) fn named(self, names: &'a Names, message: u16) -> Field<'a> {
+        let named = if self.developer().is_none() { names.field(message, self.number()) } else { None };
+        Field { named, ..self }
     }
 
     /// Its name in the profile, as `heart_rate`, or that which the file gives to a developer field.
     pub fn name(&self) -> Option<&'a str> {
-        text(self.entry, 32)
+        let named = self.named.and_then(|named| named.name.as_deref());
+        named.or_else(|| text(self.entry, 32))
     }
 
     /// Its number in the message.
@@ -95,7 +105,8 @@ impl<'a> Field<'a> {
 
     /// Its unit, as `m/s`.
     pub fn unit(&self) -> Option<&'a str> {
-        text(self.entry, two(self.entry, 2).into())
+        let named = self.named.and_then(|named| named.unit.as_deref());
+        named.or_else(|| text(self.entry, two(self.entry, 2).into()))
     }
 
     /// The code of its base type; of a developer field, that which the file says of it.
@@ -108,7 +119,8 @@ impl<'a> Field<'a> {
         self.entry[10].into()
     }
 
-    /// A whole number `n` of the field stands for `n / scale - offset` units.
+    /// A whole number `n` of the field stands for `n / scale - offset` units, by the profile; [`value`](Field::value) is what
+    /// [`Names`](crate::Names) say.
     pub fn scale(&self) -> u32 {
         four(self.entry, 16)
     }
@@ -135,8 +147,14 @@ impl<'a> Field<'a> {
             Raw::Float64(bits) => f64::from_bits(bits),
             Raw::Byte(_) => return None,
         };
-        let (scale, offset) = (f64::from(self.scale()), f64::from(self.offset()));
+        let (scale, offset) = self.measure();
         (scale != 0.0).then(|| (number - offset * scale) / scale)
+    }
+
+    /// Scale and offset, by what is said of the field beside the profile, or else by the profile.
+    fn measure(&self) -> (f64, f64) {
+        let (scale, offset) = self.named.map_or((None, None), |named| (named.scale, named.offset));
+        (scale.unwrap_or_else(|| self.scale().into()), offset.unwrap_or_else(|| self.offset().into()))
     }
 
     /// Item `k`, counted from 0, as the file has it; none where there is no such item.
@@ -163,7 +181,7 @@ impl<'a> Field<'a> {
     /// Number `k`, counted from 0, as a whole number where the profile doesn't scale it. It is [`Value::None`] where
     /// [`value`](Field::value) is none.
     pub fn item(&self, k: usize) -> Value<'a> {
-        let is_plain = self.scale() == 1 && self.offset() == 0;
+        let is_plain = self.measure() == (1.0, 0.0);
         match self.raw(k).filter(|_| self.is_valid(k)) {
             Some(Raw::Unsigned(number)) if is_plain => Value::Unsigned(number),
             Some(Raw::Signed(number)) if is_plain => Value::Signed(number),

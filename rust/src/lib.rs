@@ -26,15 +26,19 @@ mod field;
 #[allow(unsafe_code)]
 mod library;
 mod message;
+mod names;
+mod reason;
 mod streams;
 #[cfg(test)]
 mod tests;
 mod time;
 
-pub use fault::{Fault, Reason, Stopped};
+pub use fault::{Fault, Stopped};
 pub use field::{Field, Raw, Value};
 pub use library::{Bytes, Text};
 pub use message::{Fields, Iter, Message, Messages};
+pub use names::{Named, Names, NamesFault};
+pub use reason::Reason;
 pub use streams::{Made, ReadFault, Reading, Stream};
 pub use time::Time;
 

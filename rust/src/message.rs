@@ -2,6 +2,7 @@
 use crate::blocks::{eight, four, text, two, up_to_zero, Entries, Known, Walk};
 use crate::field::Field;
 use crate::library::Bytes;
+use crate::names::Names;
 use crate::time::Time;
 use std::fmt::{self, Debug, Formatter};
 use std::iter::FusedIterator;
@@ -64,7 +65,7 @@ impl<'a> Iterator for Iter<'a> {
     type Item = Message<'a>;
 
     fn next(&mut self) -> Option<Message<'a>> {
-        self.walk.next().map(|(block, definition)| Message { block, definition })
+        self.walk.next().map(|(block, definition)| Message { block, definition, names: None })
     }
 }
 
@@ -94,12 +95,20 @@ pub struct Message<'a> {
     /// Its block and that of its definition, of 40 bytes at least.
     block: &'a [u8],
     definition: &'a [u8],
+    /// What is said of it and of its fields beside the profile.
+    names: Option<&'a Names>,
 }
 
 impl<'a> Message<'a> {
+    /// The same message by these names, units and scales, which go before those of the profile. They say nothing of developer fields.
+    pub fn named(self, names: &'a Names) -> Message<'a> {
+        Message { names: Some(names), ..self }
+    }
+
     /// Its name in the profile, as `record`.
     pub fn name(&self) -> Option<&'a str> {
-        text(self.definition, 40)
+        let named = self.names.and_then(|names| names.message(self.number()));
+        named.or_else(|| text(self.definition, 40))
     }
 
     /// Its global message number, as 20 for `record`.
@@ -159,17 +168,19 @@ impl<'a> Message<'a> {
 
     /// All fields, in the order of the definition, and then all developer fields.
     pub fn fields(&self) -> Fields<'a> {
-        Fields { entries: Entries::new(self.definition), message: self.block }
+        let named = self.names.map(|names| (names, self.number()));
+        Fields { entries: Entries::new(self.definition), message: self.block, named }
     }
 
     /// The first field of this name; developer fields have names too.
     pub fn field(&self, name: &str) -> Option<Field<'a>> {
         let name = name.as_bytes();
         let is_named = |entry: &&[u8]| entry[32..].starts_with(name) && up_to_zero(&entry[32..]) == name;
-        if name.is_empty() {
-            return None;
+        match name {
+            [] => None,
+            _ if self.names.is_some() => self.fields().find(|field| field.name().map(str::as_bytes) == Some(name)),
+            _ => Entries::new(self.definition).find(is_named).map(|entry| Field::new(entry, self.block)),
         }
-        Entries::new(self.definition).find(is_named).map(|entry| Field::new(entry, self.block))
     }
 
     /// The first field with this number, developer fields left out.
@@ -209,13 +220,19 @@ impl Debug for Message<'_> {
 pub struct Fields<'a> {
     entries: Entries<'a>,
     message: &'a [u8],
+    /// What is said of fields beside the profile, and the number of the message.
+    named: Option<(&'a Names, u16)>,
 }
 
 impl<'a> Iterator for Fields<'a> {
     type Item = Field<'a>;
 
     fn next(&mut self) -> Option<Field<'a>> {
-        self.entries.next().map(|entry| Field::new(entry, self.message))
+        let field = Field::new(self.entries.next()?, self.message);
+        Some(match self.named {
+            Some((names, message)) => field.named(names, message),
+            None => field,
+        })
     }
 }
 

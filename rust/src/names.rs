@@ -1,0 +1,160 @@
+//! Names, units and scales beside those of the profile.
+use std::collections::BTreeMap;
+use std::error::Error;
+use std::fmt::{self, Display, Formatter};
+
+const COLUMNS: [&str; 8] = ["message", "message name", "field", "field name", "unit", "scale", "offset", "type"];
+const EXTRA: &str = include_str!("extra.tsv");
+
+/// What is said of a field. `None` leaves what the library says of it.
+#[derive(Debug, Clone, Default)]
+pub struct Named {
+    /// Its name.
+    pub name: Option<String>,
+    /// Its unit.
+    pub unit: Option<String>,
+    /// An item `n` stands for `n / scale - offset` units.
+    pub scale: Option<f64>,
+    /// See `scale`.
+    pub offset: Option<f64>,
+}
+
+/// Where both have the same scale, bit by bit, and so on.
+impl PartialEq for Named {
+    fn eq(&self, other: &Named) -> bool {
+        let bits = |number: Option<f64>| number.map(f64::to_bits);
+        (&self.name, &self.unit, bits(self.scale), bits(self.offset))
+            == (&other.name, &other.unit, bits(other.scale), bits(other.offset))
+    }
+}
+
+impl Eq for Named {}
+
+/// Names of messages, and names, units and scales of fields, by their numbers: a program's own, or those of [`Names::extra`].
+///
+/// [`Message::named`](crate::Message::named) gives a message by them.
+///
+/// ```
+/// use gazhdor::{Named, Names};
+///
+/// # std::env::set_current_dir(env!("GAZHDOR_RIDES")).unwrap();
+/// # let ride = std::fs::read("ride.fit").unwrap();
+/// let messages = gazhdor::messages(&ride).unwrap();
+/// let mut names = Names::extra();
+/// let course = messages.iter().map(|message| message.named(&names)).find(|message| message.name() == Some("course"));
+/// assert_eq!(course.unwrap().field("name").unwrap().text(), Some("Lake loop"));
+///
+/// names.name_field(31, 5, Named { name: Some("route".into()), ..Named::default() });
+/// let course = messages.iter().find(|message| message.number() == 31).unwrap();
+/// assert_eq!(course.named(&names).field("route").unwrap().text(), Some("Lake loop"));
+/// ```
+#[derive(Debug, Clone, Default, PartialEq, Eq)]
+pub struct Names {
+    messages: BTreeMap<u16, String>,
+    fields: BTreeMap<(u16, u8), Named>,
+}
+
+/// What is wrong with a text of names, and in which line, counted from 1.
+#[derive(Debug, Clone, Copy, PartialEq, Eq)]
+pub struct NamesFault {
+    /// The line.
+    pub line: usize,
+    /// What is wrong.
+    pub what: &'static str,
+}
+
+impl Display for NamesFault {
+    fn fmt(&self, f: &mut Formatter<'_>) -> fmt::Result {
+        write!(f, "line {}: {}", self.line, self.what)
+    }
+}
+
+impl Error for NamesFault {}
+
+impl Names {
+    /// No names.
+    pub fn new() -> Names {
+        Names::default()
+    }
+
+    /// Fields and messages that recordings have and the proved profile hasn't, after Garmin's public FIT profile. They are no part of what
+    /// is proved; the first lines of `src/extra.tsv` say of which edition they are.
+    pub fn extra() -> Names {
+        Names::read(EXTRA).unwrap_or_default()
+    }
+
+    /// The names of a text with tabs between cells. It begins with the names of its columns, which are some of `message`, `message name`,
+    /// `field`, `field name`, `unit`, `scale`, `offset` and `type`; messages and fields are numbers. An empty cell leaves what is known, a
+    /// row without a field names a message alone, and a line that begins with `#` says nothing, nor does `type` here.
+    ///
+    /// # Errors
+    ///
+    /// A [`NamesFault`] for the first line that can't be.
+    pub fn read(text: &str) -> Result<Names, NamesFault> {
+        let text = text.strip_prefix('\u{feff}').unwrap_or(text);
+        let mut lines = (1..).zip(text.lines()).filter(|(_, line)| !line.is_empty() && !line.starts_with('#'));
+        let (line, head) = lines.next().unwrap_or((1, ""));
+        let head: Vec<&str> = head.split('\t').collect();
+        let is_known = head.iter().all(|name| COLUMNS.contains(name));
+        if !is_known || !head.contains(&"message") {
+            return Err(NamesFault { line, what: "the first line has the names of the columns, and one is message" });
+        }
+        let mut names = Names::new();
+        for (line, row) in lines {
+            names.take(&head, row).map_err(|what| NamesFault { line, what })?;
+        }
+        Ok(names)
+    }
+
+    fn take(&mut self, head: &[&str], row: &str) -> Result<(), &'static str> {
+        let cells: Vec<&str> = row.split('\t').collect();
+        if cells.len() > head.len() {
+            return Err("it has more cells than the first line");
+        }
+        let cell = |name| head.iter().position(|&of| of == name).and_then(|at| cells.get(at).copied()).unwrap_or("");
+        let message = cell("message").parse().map_err(|_| "a message is 0 to 65535")?;
+        if !cell("message name").is_empty() {
+            self.name_message(message, cell("message name"));
+        }
+        if !cell("field").is_empty() {
+            let field = cell("field").parse().map_err(|_| "a field is 0 to 255")?;
+            let text = |name| Some(cell(name).to_string()).filter(|text| !text.is_empty());
+            let (scale, offset) = (number(cell("scale"))?, number(cell("offset"))?);
+            if scale == Some(0.0) {
+                return Err("a scale can't be 0");
+            }
+            self.name_field(message, field, Named { name: text("field name"), unit: text("unit"), scale, offset });
+        }
+        Ok(())
+    }
+
+    /// Names a message.
+    pub fn name_message(&mut self, message: u16, name: &str) {
+        self.messages.insert(message, name.to_string());
+    }
+
+    /// Says of a field of a message what it is. A scale that is 0 gives no values.
+    pub fn name_field(&mut self, message: u16, field: u8, named: Named) {
+        self.fields.insert((message, field), named);
+    }
+
+    /// The name of a message.
+    pub fn message(&self, message: u16) -> Option<&str> {
+        self.messages.get(&message).map(String::as_str)
+    }
+
+    /// What is said of a field of a message.
+    pub fn field(&self, message: u16, field: u8) -> Option<&Named> {
+        self.fields.get(&(message, field))
+    }
+}
+
+fn number(cell: &str) -> Result<Option<f64>, &'static str> {
+    if cell.is_empty() {
+        return Ok(None);
+    }
+    match cell.parse() {
+        Ok(number) if f64::is_finite(number) => Ok(Some(number)),
+        _ => Err("a scale and an offset are numbers"),
+    }
+}
