@@ -177,6 +177,11 @@ class Unknown(unittest.TestCase):
         self.said(lambda: gazhdor.lists(RIDE, "Record"), "Record", "record")
         self.said(lambda: list(gazhdor.messages(RIDE, only="message_140")), "message_140", None)
         self.assertEqual(list(gazhdor.messages(RIDE, only=[140, "hrv"])), [])
+        # field 254 has a name in the messages of the profile alone
+        self.said(lambda: one((1, UINT8, b"\1"), number=140)["message_index"], "message_index", None)
+        with self.assertRaises(KeyError) as caught:
+            one((1, UINT8, b"\1"), number=18)["message_index"]
+        self.assertNotIsInstance(caught.exception, gazhdor.UnknownName)
 
     def test_fields(self):
         m = one((3, UINT8, b"\x78"), developer=[(0, 0, b"\1\0")], before=(DESCRIBE, describe(0, 0, UINT16, b"Form power", b"W")))

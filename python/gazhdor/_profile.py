@@ -31,9 +31,10 @@ class Known(NamedTuple):
     told: Dict[int, Told]
 
 
-# All messages have these two, which aren't in the table.
-_TOLD_OF_ALL = {253: Told("timestamp", "s", 1, 0), 254: Told("message_index", "", 1, 0)}
-_OF_ALL = {told.name: number for number, told in _TOLD_OF_ALL.items()}
+# Field 253 has a name in all messages, and field 254 in those of the profile; they aren't in the table.
+_TOLD_OF_ALL = {253: Told("timestamp", "s", 1, 0)}
+_OF_ALL = {"timestamp": 253}
+_INDEX = {254: Told("message_index", "", 1, 0)}
 
 
 @functools.lru_cache(None)
@@ -43,7 +44,7 @@ def profile() -> Dict[str, Known]:
     lines = (packed("profile.tsv") or b"").decode().splitlines()
     for line in lines[1:]:
         number, name, field, field_name, unit, scale, offset = line.split("\t")
-        known = found.setdefault(name, Known(int(number), dict(_OF_ALL), dict(_TOLD_OF_ALL)))
+        known = found.setdefault(name, Known(int(number), {**_OF_ALL, "message_index": 254}, {**_TOLD_OF_ALL, **_INDEX}))
         known.fields[field_name] = int(field)
         known.told[int(field)] = Told(field_name, unit, int(scale), int(offset))
     return found
