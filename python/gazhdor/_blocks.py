@@ -7,13 +7,15 @@ from ._natives import DESCRIPTION, Natives
 from ._profile import Kind as Kind
 from ._profile import number_of, see_messages
 from ._values import Definition, told
+from .errors import StreamBroken
+
 Only = Union[None, str, int, Iterable[Kind]]
 Blocks = Any  # bytes, or what else has slices that are bytes
 
 HEADER, DEFINITION, MESSAGE = 1, 2, 3
 _MOST = 1 << 20  # So many bytes of definitions are kept, beside the current ones.
 _FRONT = struct.Struct("<IBBB").unpack_from
-_NUMBER = struct.Struct("<H").unpack_from
+_NUMBER, _WHICH = struct.Struct("<H").unpack_from, struct.Struct("<Q").unpack_from
 
 
 class Run(NamedTuple):
@@ -64,8 +66,8 @@ class Walk:
 
     def __init__(self, only: Only = None, names: Optional[Names] = None) -> None:
         self._wants, self._names, self._natives = _wants(only, names), names, Natives()
-        # the last definition of each local message type, where it is asked for
-        self._current: Dict[int, Optional[Definition]] = {}
+        # the last definition of each local message type, where it is asked for, and which it is of all
+        self._current: Dict[int, Tuple[Optional[Definition], int]] = {}
         # the last definition of each local message type, where it is of field descriptions
         self._describing: Dict[int, Definition] = {}
         # what some definitions say, so that one which comes again isn't looked into again
@@ -79,11 +81,13 @@ class Walk:
             length, kind, first, second = _FRONT(blocks, at)
             if kind == MESSAGE:
                 count = _count(blocks, at, length, second)
-                definition = self._current[second]
                 if second in self._describing:
                     for place in range(at, at + count * length, length):
                         self._natives.learn(self._describing[second], blocks[place : place + length])
-                if definition:
+                definition, which = self._current.get(second, (None, None))
+                if definition or which is None:
+                    if _WHICH(blocks, at + 24)[0] != which:
+                        raise StreamBroken("the block of a definition is lost")
                     yield Run(definition, at, count, length)
                 length *= count
             elif kind == DEFINITION:
@@ -94,7 +98,7 @@ class Walk:
 
     def _define(self, local: int, data: bytes) -> None:
         number: int = _NUMBER(data, 32)[0]
-        self._current[local] = self._definition(number, data)
+        self._current[local] = self._definition(number, data), _WHICH(data, 24)[0]
         self._describing.pop(local, None)
         if number == DESCRIPTION:
             self._describing[local] = Definition(data)

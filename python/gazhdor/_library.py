@@ -5,7 +5,7 @@ import pkgutil
 import platform
 import sys
 import weakref
-from typing import Any, Optional, Tuple
+from typing import Any, List, Optional, Tuple, Union
 
 from ._answers import Answer
 from .errors import LibraryMissing, LibraryUnusable, WrongMachine, WrongVersion
@@ -119,17 +119,45 @@ library = _load(VERSION)
 # A library of this version that was made before there were streams has none.
 HAS_STREAMS = hasattr(library, "gazhdor_open")
 _nothing = ctypes.create_string_buffer(1)
+_MOST_AT_ONCE = 2**30  # ctypes.string_at counts in a C int.
+
+
+def exact(data: Union[bytes, bytearray, memoryview]) -> bytes:
+    """The bytes themselves: a copy of all that aren't of the type bytes alone, as a type that is made of it may lie about its length."""
+    return data if type(data) is bytes else bytes(memoryview(data))
+
+
+def check(data: bytes) -> Answer:
+    """What is found of some bytes."""
+    data = exact(data)
+    answer: Answer = library.gazhdor_check(data, len(data))
+    return answer
+
+
+def _no_text() -> _Text:
+    return _Text(ctypes.addressof(_nothing), 0)
+
+
+def _array_of(text: _Text) -> Any:
+    return (ctypes.c_char * text.length).from_address(text.bytes or 0)
+
+
+class _Owner:
+    """What a text of the library is freed with."""
+
+    __slots__ = ("__weakref__",)
 
 
 def memory_of(call: Any, data: bytes) -> Tuple[Answer, Any]:
     """The answer of a call, and what it makes of some bytes: where the library has it, as an array of which slices are bytes. The
-    memory is freed when nothing uses the array any more."""
-    text = _Text(ctypes.addressof(_nothing), 0)
+    memory is freed when nothing uses the array any more, or where an exception comes before there is one."""
+    data, text, owner = exact(data), _no_text(), _Owner()
+    weakref.finalize(owner, library.gazhdor_free, text).atexit = False
     answer: Answer = call(data, len(data), ctypes.byref(text))
     if not text.length:
         return answer, b""
-    memory = (ctypes.c_char * text.length).from_address(text.bytes or 0)
-    weakref.finalize(memory, library.gazhdor_free, text).atexit = False
+    memory = _array_of(text)
+    memory.owner = owner
     return answer, memory
 
 
@@ -139,34 +167,46 @@ def text_of(call: Any, data: bytes) -> Tuple[Answer, bytes]:
     return answer, memory[:]
 
 
+def _close(stream: _Stream, text: _Text, callers: List[int]) -> None:
+    """Closes a stream, and frees a text that was left. A stream that another process was calling when this one was forked may be half
+    changed here, so it is left as it is."""
+    if all(caller == os.getpid() for caller in callers):
+        library.gazhdor_free(text)
+        library.gazhdor_close(stream)
+
+
 class Opened:
-    """A stream of the library, of one of its kinds. It is used by one thread at a time."""
+    """A stream of the library, of one of its kinds. It is used by one thread at a time, and not after a call that ended in an exception."""
 
     def __init__(self, kind: int) -> None:
         if not HAS_STREAMS:
             path = str(library._name)
             raise WrongVersion(f"{path} is older than the module gazhdor {VERSION}: it has no streams", path)
-        self._stream = ctypes.pointer(_Stream())
-        self.answer: Answer = library.gazhdor_open(self._stream, kind)
-        self.close = weakref.finalize(self, library.gazhdor_close, self._stream)
+        self._stream, self._text = _Stream(), _no_text()
+        self._callers: List[int] = []
+        self.close = weakref.finalize(self, _close, self._stream, self._text, self._callers)
         self.close.atexit = False
+        self.answer: Answer = library.gazhdor_open(self._stream, kind)
 
-    def _made(self, text: _Text) -> bytes:
+    def _made(self, call: Any, *given: Any) -> bytes:
+        """What a call makes; `answer` says what was found."""
+        text = self._text
+        self._callers.append(os.getpid())
+        self.answer = call(self._stream, *given, ctypes.byref(text))
+        self._callers.clear()
         if not text.length:
             return b""
-        try:
-            return ctypes.string_at(text.bytes or 0, text.length)
-        finally:
-            library.gazhdor_free(text)
+        made: bytes = _array_of(text)[:] if text.length > _MOST_AT_ONCE else ctypes.string_at(text.bytes or 0, text.length)
+        # It is forgotten before it is freed, so that nothing frees it again.
+        done, text.length = _Text(text.bytes, text.length), 0
+        library.gazhdor_free(done)
+        return made
 
     def feed(self, piece: bytes) -> bytes:
-        """What the piece completes; `answer` says what was found."""
-        text = _Text(ctypes.addressof(_nothing), 0)
-        self.answer = library.gazhdor_feed(self._stream, piece, len(piece), ctypes.byref(text))
-        return self._made(text)
+        """What the piece completes."""
+        piece = exact(piece)
+        return self._made(library.gazhdor_feed, piece, len(piece))
 
     def finish(self) -> bytes:
         """What is still to come at the end of the bytes."""
-        text = _Text(ctypes.addressof(_nothing), 0)
-        self.answer = library.gazhdor_finish(self._stream, ctypes.byref(text))
-        return self._made(text)
+        return self._made(library.gazhdor_finish)

@@ -4,6 +4,7 @@ import io
 import os
 from typing import TYPE_CHECKING, Any, Iterator, Optional, Union
 
+from ._library import exact
 from .errors import NotBinary, ReadFailed
 
 if TYPE_CHECKING:
@@ -42,10 +43,11 @@ def pieces(file: Any, size: int = PIECE) -> Iterator[bytes]:
             raise ReadFailed("it has no bytes yet, and doesn't wait for them", count)
         if not isinstance(piece, (bytes, bytearray, memoryview)):
             raise NotBinary(f"the file object's read returned {type(piece).__name__}, and not bytes")
-        if not len(piece):
+        piece = exact(piece)
+        if not piece:
             return
         count += len(piece)
-        yield bytes(piece)
+        yield piece
 
 
 @contextlib.contextmanager
@@ -65,7 +67,7 @@ def opened(source: Source) -> Iterator[Any]:
 def bytes_of(source: Source) -> bytes:
     """All bytes of a source."""
     if isinstance(source, (bytes, bytearray, memoryview)):
-        return bytes(source)
+        return exact(source)
     with opened(source) as file:
         size = max(PIECE, os.fstat(file.fileno()).st_size + 1) if isinstance(source, (str, os.PathLike)) else _ALL
         found = list(pieces(file, size))

@@ -1,16 +1,18 @@
 """Bytes that come in pieces: what is made of each piece, and of a source that is read piece by piece."""
 import csv
 import itertools
+import os
 import threading
+import weakref
 from typing import TYPE_CHECKING, Any, Callable, Generic, Iterator, List, Optional, TypeVar, Union, overload
 
 from ._answers import Answer
 from ._blocks import Blocks, Only, Walk
-from ._library import HAS_STREAMS, Opened, library, memory_of
+from ._library import HAS_STREAMS, Opened, check, exact, library, memory_of
 from ._messages import Message, messages_of
 from ._names import Told, names_of
 from ._sources import Source, bytes_of, go_back, opened, pieces, place_of
-from .errors import FitError, judge, judged
+from .errors import FitError, StreamBroken, judge, judged
 
 if TYPE_CHECKING:
     from typing_extensions import Literal
@@ -30,7 +32,10 @@ class Stream(Generic[Made]):
 
     All that `feed` and `finish` return, one after another, is what the function makes of all bytes. Where bytes are refused or end too soon,
     they raise what it raises, `Refused` or `Truncated`; its `before` is what was made before that, and each later call raises the same. After
-    `finish` and `close` a call raises ValueError. Where threads share a stream, one call waits for another.
+    `finish` and `close` a call raises ValueError. Where threads share a stream, one call waits for another; a call within another call of the
+    same thread, as in a signal handler, is a RuntimeError. Where any other exception leaves a call, as KeyboardInterrupt does, the piece wasn't
+    taken, or each later call raises `StreamBroken`. In a process that was forked a stream goes on from where it was, unless another thread
+    was using it: then it is broken there.
     """
 
     if TYPE_CHECKING:
@@ -48,11 +53,15 @@ class Stream(Generic[Made]):
         if (only is not None or names is not None) and kind != "messages":
             raise TypeError(f"a stream of {kind} has no messages of which there may be only some, or other names")
         self._make = _maker(kind, only, names)
-        self._lock = threading.Lock()
+        self._lock = threading.RLock()
+        # the thread that is in a call, and whether all that was made up to now was returned
+        self._user: Optional[int] = None
+        self._is_whole = True
         self._fault: Optional[Answer] = None
         self._opened: Optional[Opened] = Opened(_KINDS[kind])
         self.files = 0
         self._judge(self._opened, b"")
+        _streams.add(self)
 
     def _judge(self, opened: Opened, data: bytes) -> Any:
         """What was made of the bytes of a call, where its answer is good; else the fault is kept, and the stream closed."""
@@ -67,37 +76,66 @@ class Stream(Generic[Made]):
             fault.before = self._make(data)
             raise
 
+    def _see_unused(self) -> None:
+        if self._user == threading.get_ident():
+            raise RuntimeError("this thread is using the stream, in a call that hasn't ended")
+
     def _open(self) -> Opened:
         if self._fault is not None:
             judge(self._fault)
+        if not self._is_whole:
+            raise StreamBroken("a call of the stream was interrupted, and what it made is lost")
         if self._opened is None:
             raise ValueError("the stream is closed")
         return self._opened
+
+    def _made(self, call: Callable[..., bytes], *given: bytes) -> Made:
+        """What a call of the library makes. An interrupt comes before the library is called, or is seen by `except`."""
+        is_begun = False
+        try:
+            with self._lock:
+                self._see_unused()
+                try:
+                    self._user = threading.get_ident()
+                    opened = self._open()
+                    self._is_whole, is_begun = False, True
+                    made: Made = self._judge(opened, call(opened, *given))
+                    if call is Opened.finish:
+                        self._opened = None
+                        opened.close()
+                    self._is_whole, self._user = True, None
+                except BaseException:
+                    self._user = None
+                    raise
+            return made
+        except BaseException:
+            if is_begun:
+                self._is_whole = False
+            raise
 
     def feed(self, piece: Union[bytes, bytearray, memoryview]) -> Made:
         """Takes the next bytes, of any length, and returns what they complete: whole lines, whole messages."""
         if not isinstance(piece, (bytes, bytearray, memoryview)):
             raise TypeError(f"a piece is bytes, and not {type(piece).__name__}")
-        with self._lock:
-            opened = self._open()
-            made: Made = self._judge(opened, opened.feed(bytes(piece)))
-            return made
+        return self._made(Opened.feed, exact(piece))
 
     def finish(self) -> Made:
         """Says that no more bytes come, closes the stream, and returns what is still to come."""
-        with self._lock:
-            opened = self._open()
-            made: Made = self._judge(opened, opened.finish())
-            self._opened = None
-            opened.close()
-            return made
+        return self._made(Opened.finish)
 
     def close(self) -> None:
         """Closes the stream, at whatever byte it is. It may be closed twice."""
         with self._lock:
+            self._see_unused()
             opened, self._opened = self._opened, None
             if opened:
                 opened.close()
+
+    def _forked(self) -> None:
+        """In a new process, which has this thread alone."""
+        self._lock = threading.RLock()
+        if self._user not in (None, threading.get_ident()):
+            self._user, self._is_whole = None, False
 
     def __reduce__(self) -> Any:
         raise TypeError("a stream can't be copied or sent to another process")
@@ -107,6 +145,17 @@ class Stream(Generic[Made]):
 
     def __exit__(self, *error: object) -> None:
         self.close()
+
+
+_streams: "weakref.WeakSet[Stream[Any]]" = weakref.WeakSet()
+
+
+def _forked() -> None:
+    for stream in list(_streams):
+        stream._forked()
+
+
+os.register_at_fork(after_in_child=_forked)
 
 
 def _maker(kind: str, only: Only, names: Told) -> Callable[[bytes], Any]:
@@ -122,9 +171,7 @@ def _maker(kind: str, only: Only, names: Told) -> Callable[[bytes], Any]:
 def found(source: Source) -> Answer:
     """What is found of a source. It is read up to the piece with the first byte that is refused."""
     if isinstance(source, (bytes, bytearray, memoryview)) or not HAS_STREAMS:
-        data = bytes_of(source)
-        answer: Answer = library.gazhdor_check(data, len(data))
-        return answer
+        return check(bytes_of(source))
     with opened(source) as file:
         return _found(file)
 

@@ -52,6 +52,11 @@ class ReadFailed(OSError):
         return type(self), (self.what, self.count)
 
 
+class StreamBroken(RuntimeError):
+    """A call of a `Stream` was left by an exception that has nothing to do with its bytes, as KeyboardInterrupt: what it made is lost, so
+    the stream can't go on."""
+
+
 class LibraryError(ImportError):
     """`import gazhdor` can't load the library. `path` is the file, where one was found."""
 
