@@ -1,10 +1,6 @@
 /* Makes a recording to measure with. usage: recording KIND SIZE FILE; SIZE is in bytes, or with k or m after
    it. Each run makes the same bytes: a header of 14 bytes, records up to the size or a little less, and the
-   right sums. The kinds: plain         a ride: a message of 26 bytes with ten fields each second, and laps
-   and events between developer     the same with three developer fields, which are described first compressed
-   the same with compressed timestamp headers, and a timestamp only where one is needed turns         the same
-   with the definition before each message definitions   definitions alone strings       messages of texts,
-   some of which need quotes in a row of CSV */
+   right sums. bench/README.md names the kinds. */
 #include <stdint.h>
 #include <stdio.h>
 #include <stdlib.h>
@@ -82,9 +78,7 @@ enum {
 };
 
 /* number, size and base type of a field, or number, size and index of a developer field */
-struct entry {
-    uint8_t first, size, last;
-};
+struct entry { uint8_t first, size, last; };
 
 static const struct entry file_id[] = {
     {0, 1, ENUM}, {1, 2, UINT16}, {2, 2, UINT16}, {3, 4, UINT32Z}, {4, 4, UINT32}};
@@ -296,6 +290,8 @@ static void make_strings(size_t size)
     }
 }
 
+#include "interleaved.h"
+
 /* ---- the file */
 
 static void put_first_messages(void)
@@ -365,6 +361,10 @@ static int make(const char *kind, size_t size)
         make_definitions(size);
     else if (!strcmp(kind, "strings"))
         make_strings(size);
+    else if (!strcmp(kind, "interleaved"))
+        make_interleaved(size, 0);
+    else if (!strcmp(kind, "small"))
+        make_interleaved(size, 1);
     else
         return 0;
     put_last_messages();
