@@ -1,6 +1,8 @@
 """What would do in the place of a cell that `from_csv` refuses, by docs/CSV.md. It is told to a user who mends a text by hand."""
+import collections
 import csv
 import io
+import itertools
 import re
 from decimal import Decimal
 from typing import Dict, Iterator, List, NamedTuple, Optional, Tuple
@@ -70,6 +72,18 @@ class _Rows:
             self.numbers, self.fields, self.described = {}, {}, {}
         self._see_next(kind)
 
+    def says_nothing(self) -> bool:
+        """Whether the fields of the message at hand say nothing of later rows."""
+        return len(self.left) > 1 and self.numbers[self.local] != _DESCRIPTION
+
+    def skip(self, told: Iterator[List[str]]) -> int:
+        """Passes by the rows of the fields, and returns how many they are."""
+        count = len(self.left)
+        collections.deque(itertools.islice(told, count), 0)
+        self.left = []
+        self._see_next("field")
+        return count
+
     def _see_next(self, kind: str) -> None:
         if self.left:
             self.next = ["field" if self.left[0].developer is None else "dev"]
@@ -85,7 +99,7 @@ class _Rows:
 
 
 def _rows(text: str) -> Iterator[List[str]]:
-    return (cells for cells in csv.reader(io.StringIO(text[1:] if text.startswith("\ufeff") else text, newline="")) if cells)
+    return filter(None, csv.reader(io.StringIO(text[1:] if text.startswith("\ufeff") else text, newline="")))
 
 
 def advice(text: str, row: Optional[int], column: Optional[int]) -> Optional[str]:
@@ -94,8 +108,13 @@ def advice(text: str, row: Optional[int], column: Optional[int]) -> Optional[str
         return None
     rows, told = _Rows(), _rows(text)
     try:
-        for _ in range(row - 1):
+        count = 0
+        while count < row - 1:
             rows.take(next(told))
+            count += 1
+            if count + len(rows.left) < row and rows.says_nothing():
+                # All rows of the message come before the place.
+                count += rows.skip(told)
         cells: List[str] = next(told, [])
         return _of_row(rows, cells) if column is None or column == 1 else _of_cell(rows, cells, column)
     except (csv.Error, ValueError, LookupError, ArithmeticError, StopIteration, RecursionError):
