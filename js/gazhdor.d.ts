@@ -1,0 +1,249 @@
+/* Types of gazhdor.mjs. */
+
+/** What may be given as bytes. Its own length counts; it isn't changed, and no call keeps it. */
+export type Bytes = ArrayBufferLike | ArrayBufferView
+
+/** A number, or a BigInt where a whole number of 64 bits is no exact number. */
+export type Whole = number | bigint
+
+/** The value of a field: a number in the unit of the field; a text up to its first zero; bytes; several numbers as an array. null stands for
+ * a number that is the invalid one of its base type, for an empty text, for bytes of type byte that are all 0xFF, and for a field without bytes. */
+export type Value = Whole | string | Uint8Array | null | (Whole | null)[]
+
+/** What names a field: its name, or `field_N` and `dev_I_N` where it has none; its number; of a developer field [developer data index, number]. */
+export type Key = string | number | readonly [index: number, number: number]
+
+/** The name or the number of a message. */
+export type Kind = string | number
+
+/** A Date, or where the device didn't know the time the text `system+N`, N being seconds. */
+export type Time = Date | string
+
+export type Reason =
+    | "HeaderSize" | "Protocol" | "NoFit" | "Signature" | "HeaderSum" | "ReservedBit" | "UndefinedLocal" | "Overrun" | "Architecture"
+    | "FileSum" | "TooManyFiles"
+
+/** What a call found. As text it is the finding, as `ok` or `refused at byte 3258: FileSum`. */
+export class Answer {
+    private constructor()
+    /** Whether the bytes are a FIT file or several, one after another. */
+    readonly good: boolean
+    /** How many files they are, where they are good; else 0. */
+    readonly files: number
+    /** The place of the byte that is refused, or where the bytes end too soon, counted from 0. */
+    readonly place: number | null
+    /** Why a byte is refused. */
+    readonly reason: Reason | null
+    /** Of a text the first row that isn't allowed where it is, counted from 1. */
+    readonly row: number | null
+    /** Of a text its first cell that isn't allowed there, counted from 1; null where the row as a whole is refused. */
+    readonly column: number | null
+    /** The number that the library has for the finding. */
+    readonly status: number
+    /** The finding in words for a person, or null where it is good. */
+    readonly explanation: string | null
+    toString(): string
+}
+
+/** The bytes or the text are no FIT file. */
+export class FitError extends Error {
+    protected constructor()
+    readonly answer: Answer
+    readonly place: number | null
+    readonly reason: Reason | null
+    readonly row: number | null
+    readonly column: number | null
+    readonly explanation: string
+    /** What a call of a Stream made before it found that; else null. */
+    before: string | Uint8Array | Message[] | null
+}
+/** The byte at `place` is the first that cannot belong to any FIT file; `reason` says why. */
+export class Refused extends FitError {
+    readonly place: number
+    readonly reason: Reason
+}
+/** The bytes end too soon, at `place`. */
+export class Truncated extends FitError {
+    readonly place: number
+}
+/** A text that `fromCsv` can't read, at `row` and `column`, or whose files have no bytes; then these are null. */
+export class TextRefused extends FitError {}
+/** The engine gave no more memory, to the module or for what it made. This says nothing of the bytes. */
+export class OutOfMemory extends RangeError {}
+/** The columns would have more cells than are made at once. */
+export class TooManyCells extends RangeError {}
+/** The module stopped within a call, which it never should: each later call says the same, and `open` gives another. */
+export class Trapped extends Error {}
+/** What was opened is no module of gazhdor, or one of another version. */
+export class WrongModule extends Error {}
+
+/** A record message, as a row of the table. null stands where the file says nothing of a value. */
+export interface Row {
+    /** The number of the file in the chain, counted from 1. */
+    file: number
+    timestamp: Time | null
+    /** Degrees north. */
+    position_lat: number | null
+    /** Degrees east. */
+    position_long: number | null
+    /** Metres. */
+    altitude: number | null
+    /** Metres since the start. */
+    distance: number | null
+    /** Metres a second. */
+    speed: number | null
+    /** Beats a minute. */
+    heart_rate: number | null
+    /** Turns a minute. */
+    cadence: number | null
+    /** Watts. */
+    power: number | null
+    /** Degrees Celsius. */
+    temperature: number | null
+}
+
+/** A field of a message. */
+export class Field {
+    private constructor()
+    /** Its name in the profile, or that which the file gives to a developer field. */
+    readonly name: string | null
+    readonly number: number
+    /** Of a developer field its developer data index. */
+    readonly developer: number | null
+    readonly unit: string | null
+    readonly baseType: number
+    readonly value: Value
+    /** `value`, but whole numbers as text, with as many decimals as `toCsv` writes. */
+    readonly exact: string | number | Uint8Array | null | (string | number | bigint | null)[]
+    /** What the file has: each number unscaled, invalid ones too, of a float its bits; all bytes of a text or of bytes. */
+    readonly raw: Whole | Uint8Array | Whole[]
+    toString(): string
+}
+
+/** A data message. It makes a value when it is asked for it. */
+export class Message {
+    private constructor()
+    /** Its name in the profile, as `record`. */
+    readonly name: string | null
+    /** The global message number, as 20 for `record`. */
+    readonly number: number
+    /** The local message type, 0 to 15. */
+    readonly local: number
+    /** The number of the file in the chain, counted from 1. */
+    readonly file: number
+    /** The place of its first byte in the source, counted from 0. */
+    readonly place: number
+    /** Its time, from field 253 or else from a compressed timestamp header. */
+    readonly time: Time | null
+    /** The same in seconds since 1989-12-31T00:00:00 UTC, or since the device began. */
+    readonly seconds: number | null
+    /** The time that a compressed timestamp header gives. */
+    readonly headerTime: Time | null
+    /** The time offset of a compressed timestamp header, 0 to 31. */
+    readonly timeOffset: number | null
+    /** Metres a second, of a record with `compressed_speed_distance`. */
+    readonly speed: number | null
+    /** Metres, accumulated over the file from `compressed_speed_distance`. */
+    readonly distance: number | null
+    /** Cycles, accumulated over the file. */
+    readonly totalCycles: Whole | null
+    /** Watts, accumulated over the file. */
+    readonly accumulatedPower: Whole | null
+    /** Of a record, in degrees. */
+    readonly position: { latitude: number; longitude: number } | null
+    /** All fields, in the order of the definition, and then all developer fields. */
+    readonly fields: Field[]
+    /** The value of a field; null where it has none, undefined where the message has no such field. */
+    get(key: Key): Value | undefined
+    has(key: Key): boolean
+    unit(key: Key): string | null | undefined
+    /** The values of a field as an array: of a lone number that one, without those that stand for no value. */
+    values(key: Key): Exclude<Value, null | unknown[]>[]
+    field(key: Key): Field | undefined
+    /** Names and values, each field once; a field without a name is `field_N` or `dev_I_N`. */
+    [Symbol.iterator](): IterableIterator<[string, Value]>
+    toObject(): Record<string, Value>
+    /** What JSON.stringify takes: bytes as hexadecimal digits, numbers that are no exact ones as text. */
+    toJSON(): Record<string, unknown>
+}
+
+/** A typed array of numbers, and NaN where a message has none; of a field that is somewhere a text, bytes or several numbers an array of its values. */
+export type Column = Float64Array | Value[]
+
+export interface Partial {
+    /** What comes before a fault is given, and then the fault is thrown by `table` and `messages`, and by the others not. */
+    partial?: boolean
+}
+export interface Encoded extends Partial {
+    /** The text as bytes in UTF-8. */
+    encoded: true
+}
+export interface Only {
+    /** The messages that are asked for, by name or number. Nothing is made of the others. */
+    only?: Kind | Iterable<Kind>
+}
+export type StreamKind = "check" | "show" | "table" | "toCsv" | "blocks" | "messages"
+
+/** An instance of the module. Each call throws OutOfMemory where the engine gives no more memory. */
+export class Gazhdor {
+    private constructor()
+    /** Whether the bytes are a FIT file or several, one after another. */
+    check(source: Bytes): Answer
+    /** An object for each record message. */
+    table(source: Bytes, options?: Partial): IterableIterator<Row>
+    /** The table of the record messages as CSV text. */
+    tableText(source: Bytes, options?: Partial & { encoded?: false }): string
+    tableText(source: Bytes, options: Encoded): Uint8Array
+    /** All of the file as CSV text, of which `fromCsv` makes the same bytes again. */
+    toCsv(source: Bytes, options?: Partial & { encoded?: false }): string
+    toCsv(source: Bytes, options: Encoded): Uint8Array
+    /** The messages with names, units and times, a line each. */
+    show(source: Bytes, options?: Partial & { encoded?: false }): string
+    show(source: Bytes, options: Encoded): Uint8Array
+    /** The bytes of the file or files that a CSV text describes. */
+    fromCsv(text: string | Bytes): Uint8Array
+    /** The good messages of a file that was cut or damaged as a file of their own, with the files before it. */
+    mend(source: Bytes): Uint8Array
+    /** A Message for each data message. */
+    messages(source: Bytes, options?: Partial & Only): IterableIterator<Message>
+    /** The values of fields in all messages of a name or number, in their order. Without `fields` it is each field that one of them has.
+     * `timestamp` is the time of the message in milliseconds since 1970; `.latitude` and `.longitude` are in degrees; `.file`, `.place`, `.local`,
+     * `.seconds`, `.time`, `.speed`, `.distance`, `.total_cycles`, `.accumulated_power` are what the message tells of itself. */
+    columns(source: Bytes, message: Kind, fields?: Iterable<Key>, options?: Partial): Record<string, Column>
+    columns<Name extends string>(source: Bytes, message: Kind, fields: readonly Name[], options?: Partial): Record<Name, Column>
+    /** For `pipeThrough`: bytes go in, and messages, texts or blocks come out; of "check" the bytes themselves. */
+    stream(kind: "messages", options?: Only): ReadableWritablePair<Message, Bytes>
+    stream(kind: "show" | "table" | "toCsv"): ReadableWritablePair<string, Bytes>
+    stream(kind: "blocks"): ReadableWritablePair<Uint8Array, Bytes>
+    stream(kind: "check"): ReadableWritablePair<Bytes, Bytes>
+    /** Bytes of the module's memory now. */
+    readonly size: number
+}
+
+/** FIT files that come in pieces. It keeps what the next piece needs, and no more for more bytes. */
+export class Stream<Made extends string | Uint8Array | Message[] = string | Uint8Array | Message[]> {
+    constructor(gazhdor: Gazhdor, kind: StreamKind, options?: Only)
+    /** How many files have ended so far. */
+    readonly files: number
+    /** Takes the next bytes, of any length, and returns what they complete: whole lines, messages or blocks. */
+    feed(piece: Bytes): Made
+    /** Says that no more bytes come, closes the stream, and returns what is still to come. */
+    finish(): Made
+    close(): void
+}
+
+export interface Options {
+    /** The most bytes that the memory of the module may have, at least some 1.2 million. */
+    maximum?: number
+}
+/** Opens an instance of the module: of gazhdor.wasm beside this file, or of what is given. */
+export function open(source?: string | URL | Bytes | WebAssembly.Module | Response | Promise<Response>, options?: Options): Promise<Gazhdor>
+
+/** The time that a number of a field such as `start_time` stands for. */
+export function when(seconds: number): Time
+export function when(seconds: number | null | undefined): Time | null
+
+/** Degrees of semicircles. */
+export function degrees(semicircles: number): number
+
+export const VERSION: string

@@ -1,0 +1,176 @@
+/* Columns of messages: typed arrays, filled from blocks where they lie in the module's memory. */
+import { TooManyCells } from "./answers.mjs"
+import { NO_TIME, SYSTEM_TIMES, degrees, milliseconds } from "./messages.mjs"
+import { FLOAT, SIGNED, UNSIGNED, labelOf, scaler } from "./values.mjs"
+
+const MOST_CELLS = 1 << 26
+
+/* A place of a whole number in each block, whose greatest stands for no value. */
+function placed(begins, width, scale = 1) {
+    const entry = { kind: UNSIGNED, count: 1, isNumber: true, begins, width, scale, offset: 0, invalid: width === 8 ? 2n ** 64n - 1n : 256 ** width - 1 }
+    return { ...entry, scaled: scaler(entry) }
+}
+
+/* A position in semicircles as one in degrees. */
+function inDegrees(entry) {
+    if (entry === undefined || entry.kind !== SIGNED || entry.width !== 4 || entry.count !== 1) return undefined
+    return { ...entry, isNumber: true, factor: degrees(1) }
+}
+
+/* What a message tells of itself, by the names of its attributes: where it stands in each block, and in those that have counters. */
+const OWN = { ".file": placed(8, 4), ".place": placed(16, 8), ".local": placed(6, 1), ".seconds": placed(12, 4) }
+const COUNTED = { ".speed": placed(40, 8, 100), ".distance": placed(48, 8, 16), ".total_cycles": placed(56, 8), ".accumulated_power": placed(64, 8) }
+const POSITIONS = { ".latitude": "position_lat", ".longitude": "position_long" }
+const TIMES = ["timestamp", ".time"]
+
+/* What a column takes of each message of a definition. */
+function entryOf(definition, key) {
+    if (Object.hasOwn(OWN, key)) return OWN[key]
+    if (Object.hasOwn(COUNTED, key)) return definition.isCounted ? COUNTED[key] : undefined
+    return Object.hasOwn(POSITIONS, key) ? inDegrees(definition.entry(POSITIONS[key])) : definition.entry(key)
+}
+
+/* Views of a memory, one for each kind of item: an item at a place is that at the place divided by its width. */
+class Views {
+    constructor(bytes) {
+        this.bytes = bytes
+        this.view = new DataView(bytes.buffer, bytes.byteOffset, bytes.byteLength)
+        // Blocks stand at a multiple of 8, and end at one.
+        const view = Kind => new Kind(bytes.buffer, bytes.byteOffset, bytes.byteLength / Kind.BYTES_PER_ELEMENT)
+        this.unsigned = { 1: view(Uint8Array), 2: view(Uint16Array), 4: view(Uint32Array), 8: view(BigUint64Array) }
+        this.signed = { 1: view(Int8Array), 2: view(Int16Array), 4: view(Int32Array), 8: view(BigInt64Array) }
+        this.floats = { 4: view(Float32Array), 8: view(Float64Array) }
+    }
+
+    /* The bits of the items of a field, and the items as numbers. */
+    of({ kind, width }) {
+        const items = kind === FLOAT ? this.floats[width] : kind === SIGNED ? this.signed[width] : this.unsigned[width]
+        return [kind === SIGNED ? items : this.unsigned[width], items]
+    }
+}
+
+/* The invalid item as the bits that are compared with it have it. */
+function invalidOf({ kind, width, invalid }) {
+    if (kind !== SIGNED) return invalid
+    return width === 8 ? BigInt.asIntN(64, invalid) : Number(BigInt.asIntN(8 * width, BigInt(invalid)))
+}
+
+/* A column: numbers as float64, and NaN for none, until a message has a text, bytes or several numbers there; then an array of values. */
+class Column {
+    #numbers = new Float64Array(256)
+    #values = null
+    #length = 0
+
+    #grow(length) {
+        if (length <= this.#numbers.length) return
+        const more = new Float64Array(Math.max(length, 2 * this.#numbers.length))
+        more.set(this.#numbers.subarray(0, this.#length))
+        this.#numbers = more
+    }
+
+    /* The messages up to a row, and not yet told of, have no value. */
+    reach(row) {
+        if (this.#values !== null) while (this.#length < row) this.#values[this.#length++] = null
+        if (this.#length >= row) return
+        this.#grow(row)
+        this.#numbers.fill(NaN, this.#length, row)
+        this.#length = row
+    }
+
+    times(views, { begin, end, length }, row) {
+        this.reach(row)
+        const seconds = views.unsigned[4], rows = (end - begin) / length
+        this.#grow(row + rows)
+        for (let at = begin / 4 + 3, k = row; k < row + rows; k++, at += length / 4) {
+            const told = seconds[at]
+            this.#numbers[k] = told === NO_TIME || told < SYSTEM_TIMES ? NaN : milliseconds(told)
+        }
+        this.#length = row + rows
+    }
+
+    take(views, run, row, entry) {
+        this.reach(row)
+        if (!entry.isNumber && this.#values === null) {
+            this.#values = Array.from(this.#numbers.subarray(0, row), number => (Number.isNaN(number) ? null : number))
+        }
+        if (this.#values !== null) {
+            for (let at = run.begin; at < run.end; at += run.length) this.#values[this.#length++] = entry.read(views, at)
+            return
+        }
+        this.#fill(views, run, row, entry)
+    }
+
+    #fill(views, { begin, end, length }, row, entry) {
+        const { width, scale, scaled } = entry, rows = (end - begin) / length, invalid = invalidOf(entry), step = length / width
+        const [bits, items] = views.of(entry)
+        this.#grow(row + rows)
+        const numbers = this.#numbers, shift = scale * entry.offset
+        let at = (begin + entry.begins) / width
+        if (width === 8) for (let k = row; k < row + rows; k++, at += step) numbers[k] = bits[at] === invalid ? NaN : Number(scaled(items[at]))
+        else if (entry.kind === FLOAT) for (let k = row; k < row + rows; k++, at += step) numbers[k] = bits[at] === invalid ? NaN : scaled(items[at])
+        else for (let k = row; k < row + rows; k++, at += step) numbers[k] = bits[at] === invalid ? NaN : (items[at] - shift) / scale
+        if (entry.factor !== undefined) for (let k = row; k < row + rows; k++) numbers[k] *= entry.factor
+        this.#length = row + rows
+    }
+
+    done(rows) {
+        this.reach(rows)
+        return this.#values ?? this.#numbers.slice(0, rows)
+    }
+}
+
+const isField253 = entry => entry.number === 253 && entry.index === null
+
+/* The columns of some fields, or of all that the messages have. */
+export class Columns {
+    #columns = new Map()
+    #keys
+    #parts = new Map() // of each definition what it adds to, and by which entry
+    #rows = 0
+
+    constructor(fields) {
+        if (typeof fields === "string" || typeof fields === "number") throw new TypeError("the fields are a list of names, and not one name")
+        this.#keys = fields === undefined || fields === null ? null : [...fields]
+        for (const key of this.#keys ?? ["timestamp"]) this.#column(labelOf(key))
+    }
+
+    #column(label) {
+        if (!this.#columns.has(label)) this.#columns.set(label, new Column())
+        return this.#columns.get(label)
+    }
+
+    /* Takes the messages of some blocks, where they lie. */
+    take(bytes, runs) {
+        if (runs.length === 0) return
+        const views = new Views(bytes)
+        for (const run of runs) {
+            for (const [column, entry] of this.#of(run.definition))
+                if (entry === null) column.times(views, run, this.#rows)
+                else column.take(views, run, this.#rows, entry)
+            this.#rows += (run.end - run.begin) / run.length
+            if (this.#rows * this.#columns.size > MOST_CELLS)
+                throw new TooManyCells(`${this.#columns.size} columns of ${this.#rows} messages have more than ${MOST_CELLS} cells: name fewer fields`)
+        }
+    }
+
+    /* The columns to which the messages of a definition add, each with what it takes of a message, and the one of times with null. */
+    #of(definition) {
+        let found = this.#parts.get(definition)
+        if (found === undefined) {
+            const labels = Array.from(definition.labels).filter(([, entry]) => !isField253(entry)).map(([label]) => label)
+            found = (this.#keys ?? ["timestamp", ...labels])
+                .map(key => [labelOf(key), TIMES.includes(key) ? null : entryOf(definition, key)])
+                .filter(([, entry]) => entry !== undefined)
+                .map(([label, entry]) => [this.#column(label), entry])
+            this.#parts.set(definition, found)
+        }
+        return found
+    }
+
+    done() {
+        const found = Object.create(null)
+        for (const [label, column] of this.#columns) found[label] = column.done(this.#rows)
+        if (this.#keys === null && found.timestamp.every(Number.isNaN)) delete found.timestamp
+        return found
+    }
+}

@@ -1,0 +1,154 @@
+/* Calls into the module: bytes are copied into its memory, a call of the proved library is made, and what that made is handed out where it
+ * lies, and then freed. */
+import { Answer, NO_MEMORY, OutOfMemory, Trapped, WrongModule } from "./answers.mjs"
+
+export const VERSION = "0.3.0"
+
+const CALLS = ["check", "table", "to_csv", "show", "messages", "from_csv", "open", "feed", "finish", "close", "alloc", "free", "version"]
+
+/* Beside each call stand 40 bytes of its answer and 16 of its text: where that lies, and its length. */
+const TEXT_AT = 40
+const PLACE = 56
+
+const NONE = new Uint8Array(0)
+const nothing = () => NONE
+
+/* One instance of the module, and its memory. */
+export class Core {
+    #calls
+    #place
+    #trap
+
+    constructor(instance) {
+        const calls = instance.exports
+        const lacks = CALLS.find(name => typeof calls[`gazhdor_${name}`] !== "function")
+        if (lacks !== undefined || !(calls.memory instanceof WebAssembly.Memory))
+            throw new WrongModule(`this is no module of gazhdor: it has no ${lacks === undefined ? "memory" : `gazhdor_${lacks}`}`)
+        this.#calls = calls
+        const told = this.#version()
+        if (told !== VERSION) throw new WrongModule(`the module is of version ${told}, and gazhdor.mjs of version ${VERSION}`)
+        this.#place = this.#taken(PLACE)
+        if (this.#place === 0n) throw new OutOfMemory()
+    }
+
+    #version() {
+        const at = Number(this.#enter("gazhdor_version"))
+        const bytes = new Uint8Array(this.#calls.memory.buffer, at)
+        return new TextDecoder().decode(bytes.subarray(0, bytes.subarray(0, 20).indexOf(0)))
+    }
+
+    /* Bytes of the module's memory now. It never shrinks. */
+    get size() { return this.#calls.memory.buffer.byteLength }
+
+    #enter(name, ...words) {
+        if (this.#trap !== undefined) throw this.#trap
+        try {
+            return this.#calls[name](...words)
+        } catch (error) {
+            throw this.#trap = new Trapped(name, error)
+        }
+    }
+
+    #taken(length) { return this.#enter("gazhdor_alloc", BigInt(length)) }
+    #free(at) { if (at !== 0n && this.#trap === undefined) this.#enter("gazhdor_free", at) }
+
+    /* Some bytes in the module's memory; 0 where that is refused. */
+    #put(bytes) {
+        const at = this.#taken(Math.max(bytes.length, 1))
+        if (at !== 0n) new Uint8Array(this.#calls.memory.buffer, Number(at), bytes.length).set(bytes)
+        return at
+    }
+
+    #view() { return new DataView(this.#calls.memory.buffer, Number(this.#place), PLACE) }
+
+    /* Makes a call, and returns its answer and what `use` makes of the bytes that the call made, where they lie: it keeps none of them, and
+     * makes no call. `words` are those after the place of the answer, and before that of the text. */
+    #made(name, words, use) {
+        let text = 0n
+        const before = this.#view()
+        before.setBigUint64(TEXT_AT, this.#place, true)
+        before.setBigUint64(TEXT_AT + 8, 0n, true)
+        this.#enter(name, this.#place, ...words, this.#place + BigInt(TEXT_AT))
+        const answer = this.#answer()
+        const length = Number(this.#view().getBigUint64(TEXT_AT + 8, true))
+        if (length === 0) return [answer, use(NONE)]
+        try {
+            text = this.#view().getBigUint64(TEXT_AT, true)
+            return [answer, use(new Uint8Array(this.#calls.memory.buffer, Number(text), length))]
+        } finally {
+            this.#free(text)
+        }
+    }
+
+    #answer() {
+        const view = this.#view(), number = at => Number(view.getBigUint64(at, true))
+        return new Answer({
+            status: view.getUint32(0, true), reason: view.getUint32(4, true), place: number(8), row: number(16), column: number(24), files: number(32),
+        })
+    }
+
+    /* With some bytes in the memory, what `call` returns of where they are and how many; else that memory was refused. */
+    #with(bytes, call, use) {
+        const at = this.#put(bytes)
+        if (at === 0n) return [new Answer({ status: NO_MEMORY }), use(NONE)]
+        try {
+            return call(at, BigInt(bytes.length))
+        } finally {
+            this.#free(at)
+        }
+    }
+
+    check(bytes) {
+        return this.#with(bytes, (at, length) => {
+            this.#enter("gazhdor_check", this.#place, at, length)
+            return [this.#answer()]
+        }, nothing)[0]
+    }
+
+    /* A call that makes a text of bytes: table, to_csv, show, messages, from_csv. */
+    make(name, bytes, use) {
+        return this.#with(bytes, (at, length) => this.#made(`gazhdor_${name}`, [at, length], use), use)
+    }
+
+    /* Opens a stream, and returns where it is; 0 where memory was refused. */
+    open(kind) {
+        const at = this.#put(new Uint8Array(8))
+        if (at === 0n) return 0n
+        this.#enter("gazhdor_open", this.#place, at, kind)
+        if (this.#answer().good) return at
+        this.#free(at)
+        return 0n
+    }
+
+    feed(stream, bytes, use) {
+        return this.#with(bytes, (at, length) => this.#made("gazhdor_feed", [stream, at, length], use), use)
+    }
+
+    finish(stream, use) { return this.#made("gazhdor_finish", [stream], use) }
+
+    close(stream) {
+        if (this.#trap !== undefined) return
+        this.#enter("gazhdor_close", stream)
+        this.#free(stream)
+    }
+}
+
+/* A copy of bytes that lie in a module's memory. */
+export function copied(bytes) {
+    try {
+        return bytes.slice()
+    } catch {
+        throw new OutOfMemory(`no memory for ${bytes.length} bytes outside the module`)
+    }
+}
+
+const utf8 = new TextDecoder("utf-8", { ignoreBOM: true })
+
+/* The text of bytes that lie in a module's memory. */
+export function decoded(bytes) {
+    try {
+        return utf8.decode(bytes)
+    } catch {
+        throw new OutOfMemory(`a text of ${bytes.length} bytes is too long for a string here: take it as bytes, or in pieces`)
+    }
+}

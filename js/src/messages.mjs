@@ -1,0 +1,212 @@
+/* Messages as values, made from the blocks of docs/BLOCKS.md. */
+import { Definition, exactOf, rawOf, whole } from "./values.mjs"
+
+const EPOCH = 631065600 // 1989-12-31T00:00:00 UTC, in seconds since 1970
+export const SYSTEM_TIMES = 0x10000000 // A time below is the device's own, which didn't know the time of day.
+export const NO_TIME = 0xffffffff
+
+/* Seconds since 1989-12-31T00:00:00 UTC as milliseconds since 1970, as a Date has them. */
+export const milliseconds = seconds => (seconds + EPOCH) * 1000
+
+/* The time that a field of type date_time stands for, in seconds since 1989-12-31T00:00:00 UTC: a Date; below 268,435,456 the text
+ * "system+N", as the device didn't know the time; null where there is none. */
+export function when(seconds) {
+    if (seconds === null || seconds === undefined) return null
+    if (typeof seconds !== "number") throw new TypeError(`a time is a number of seconds, and not ${typeof seconds}`)
+    return seconds < SYSTEM_TIMES ? `system+${seconds}` : new Date(milliseconds(seconds))
+}
+
+/* Degrees of semicircles, of which 2^31 are 180 degrees. */
+export const degrees = semicircles => semicircles * (180 / 2 ** 31)
+
+/* A field of a message. */
+export class Field {
+    #entry
+    #part
+    #at
+
+    constructor(entry, part, at) {
+        this.#entry = entry
+        this.#part = part
+        this.#at = at
+    }
+
+    get name() { return this.#entry.name }
+    get number() { return this.#entry.number }
+    get developer() { return this.#entry.index }
+    get unit() { return this.#entry.unit }
+    get baseType() { return this.#entry.baseType }
+    get value() { return this.#entry.read(this.#part, this.#at) }
+    get exact() { return exactOf(this.#entry, this.#part, this.#at) }
+    get raw() { return rawOf(this.#entry, this.#part, this.#at) }
+    toString() { return `${this.name ?? this.#entry.numbers}=${this.value}${this.unit === null ? "" : ` ${this.unit}`}` }
+}
+
+/* A data message. It keeps the bytes of the messages that came with it, and makes a value when it is asked for it. */
+export class Message {
+    #definition
+    #part
+    #at
+
+    constructor(definition, part, at) {
+        this.#definition = definition
+        this.#part = part
+        this.#at = at
+    }
+
+    /* The value of a field; null where it has none, undefined where the message has no such field. */
+    get(key) { return this.#definition.entry(key)?.read(this.#part, this.#at) }
+    has(key) { return this.#definition.entry(key) !== undefined }
+    unit(key) { return this.#definition.entry(key)?.unit }
+
+    /* The values of a field as an array: of a lone number that one, without those that stand for no value. */
+    values(key) {
+        const value = this.get(key) ?? []
+        return (Array.isArray(value) ? value : [value]).filter(item => item !== null)
+    }
+
+    field(key) {
+        const entry = this.#definition.entry(key)
+        return entry && new Field(entry, this.#part, this.#at)
+    }
+
+    get fields() { return this.#definition.entries.map(entry => new Field(entry, this.#part, this.#at)) }
+    get name() { return this.#definition.name }
+    get number() { return this.#definition.number }
+    get local() { return this.#part.bytes[this.#at + 6] }
+    get file() { return this.#part.view.getUint32(this.#at + 8, true) }
+    get place() { return Number(this.#part.view.getBigUint64(this.#at + 16, true)) }
+    get seconds() { return this.#told(1) ? this.#part.view.getUint32(this.#at + 12, true) : null }
+    get time() { return when(this.seconds) }
+    get headerTime() { return this.#told(2) ? when(this.#part.view.getUint32(this.#at + 32, true)) : null }
+
+    get timeOffset() {
+        const offset = this.#part.bytes[this.#at + 7]
+        return offset === 0xff ? null : offset
+    }
+
+    #told(bit) { return (this.#part.bytes[this.#at + 5] & bit) !== 0 }
+    #amount(bit, at) { return this.#told(bit) ? this.#part.view.getBigUint64(this.#at + at, true) : null }
+
+    get speed() { return this.#told(4) ? Number(this.#amount(4, 40)) / 100 : null }
+    get distance() { return this.#told(8) ? Number(this.#amount(8, 48)) / 16 : null }
+    get totalCycles() { return this.#told(16) ? whole(this.#amount(16, 56)) : null }
+    get accumulatedPower() { return this.#told(32) ? whole(this.#amount(32, 64)) : null }
+
+    /* Where a record was made, in degrees; null where it doesn't say. */
+    get position() {
+        const latitude = this.get("position_lat"), longitude = this.get("position_long")
+        if (typeof latitude !== "number" || typeof longitude !== "number") return null
+        return { latitude: degrees(latitude), longitude: degrees(longitude) }
+    }
+
+    /* Names and values, each field once: without a name by `field_N`, or `dev_I_N`, I being the developer data index. */
+    *[Symbol.iterator]() {
+        for (const [label, entry] of this.#definition.labels) yield [label, entry.read(this.#part, this.#at)]
+    }
+
+    toObject() {
+        const found = Object.create(null)
+        for (const [label, value] of this) found[label] = value
+        return found
+    }
+
+    /* As JSON has it: bytes as hexadecimal digits, whole numbers that are no exact number as text, and null for what is no finite number. */
+    toJSON() {
+        const { number, file, place, local, time } = this, fields = Object.create(null), units = Object.create(null)
+        for (const [label, value] of this) fields[label] = plain(value)
+        for (const [label, entry] of this.#definition.labels) if (entry.unit !== null) units[label] = entry.unit
+        const told = { message: this.name ?? `message_${number}`, number, file, place, local, time: time instanceof Date ? isoText(time) : time }
+        for (const name of ["speed", "distance", "totalCycles", "accumulatedPower"]) if (this[name] !== null) told[name] = plain(this[name])
+        return { ...told, fields, units }
+    }
+}
+
+// As Node prints them.
+const inspected = Symbol.for("nodejs.util.inspect.custom")
+Field.prototype[inspected] = function () { return `Field ${this}` }
+Message.prototype[inspected] = function () { return this.toJSON() }
+
+const isoText = time => time.toISOString().replace(".000Z", "Z")
+
+function plain(value) {
+    if (Array.isArray(value)) return value.map(plain)
+    if (typeof value === "bigint") return String(value)
+    return value instanceof Uint8Array ? `0x${Array.from(value, byte => byte.toString(16).toUpperCase().padStart(2, "0")).join("")}` : value
+}
+
+const [DEFINITION, MESSAGE] = [2, 3]
+const MOST = 1 << 20 // So many bytes of definitions are kept, beside the current ones.
+const latin1 = new TextDecoder("latin1")
+
+/* What tells by its number and its name whether a message is asked for. */
+function wants(only) {
+    if (only === undefined || only === null) return () => true
+    const kinds = typeof only === "string" || typeof only === "number" ? [only] : [...only]
+    for (const kind of kinds)
+        if (typeof kind !== "string" && typeof kind !== "number") throw new TypeError(`a message is named by its name or its number, and not by ${typeof kind}`)
+    return definition => kinds.includes(definition.number) || (definition.name !== null && kinds.includes(definition.name))
+}
+
+/* Goes through blocks, which may come in parts, and knows the definitions that came with earlier ones. */
+export class Walk {
+    #wants
+    #all
+    #current = new Map() // of each local message type the last definition, where it is asked for, and its number among all
+    #known = new Map() // what some definitions say, so that one which comes again isn't looked into again
+    #room = MOST
+
+    constructor(only) {
+        this.#wants = wants(only)
+        this.#all = only === undefined || only === null
+    }
+
+    /* The messages that are asked for, those of one definition that follow one another together: where the first begins, where the last
+     * ends, and how long each is. */
+    runs(bytes) {
+        const view = new DataView(bytes.buffer, bytes.byteOffset, bytes.byteLength), found = []
+        for (let at = 0; at < bytes.length;) {
+            const length = view.getUint32(at, true)
+            let end = at + length
+            if (bytes[at + 4] === MESSAGE) {
+                const local = bytes[at + 6], current = this.#current.get(local)
+                while (end < bytes.length && bytes[end + 4] === MESSAGE && bytes[end + 6] === local) end += length
+                if (current?.number !== view.getBigUint64(at + 24, true)) throw new Error("gazhdor: a message without its definition")
+                if (current.definition !== null) found.push({ definition: current.definition, begin: at, end, length })
+            } else if (bytes[at + 4] === DEFINITION) {
+                this.#current.set(bytes[at + 5], { number: view.getBigUint64(at + 24, true), definition: this.#definition(bytes.subarray(at, end)) })
+            }
+            at = end
+        }
+        return found
+    }
+
+    /* The messages of some blocks, with a copy of what they need. */
+    messages(bytes) {
+        const found = [], runs = this.runs(bytes)
+        const shared = this.#all && runs.length > 0 ? partOf(bytes.slice()) : null
+        for (const { definition, begin, end, length } of runs) {
+            const part = shared ?? partOf(bytes.slice(begin, end)), first = shared ? begin : 0
+            for (let at = first; at < first + end - begin; at += length) found.push(new Message(definition, part, at))
+        }
+        return found
+    }
+
+    #definition(block) {
+        const same = latin1.decode(block.subarray(32)) // What comes before says nothing of messages but their length, which their fields have.
+        let found = this.#known.get(same)
+        if (found === undefined) {
+            this.#room -= same.length
+            if (this.#room < 0) {
+                this.#known.clear()
+                this.#room = MOST - same.length
+            }
+            const definition = new Definition(block)
+            found = this.#wants(definition) ? definition : null
+            this.#known.set(same, found)
+        }
+        return found
+    }
+}
+
+const partOf = bytes => ({ bytes, view: new DataView(bytes.buffer) })

@@ -1,0 +1,176 @@
+/* What the items of a field stand for, and the field as its definition has it: an entry of docs/BLOCKS.md. */
+
+export const [UNSIGNED, SIGNED, FLOAT, TEXT, BYTES] = [0, 1, 2, 3, 4]
+
+const utf8 = new TextDecoder("utf-8", { ignoreBOM: true })
+
+/* The text that begins at a place and ends before a zero, or before an end; null where it is empty. */
+export function textAt(bytes, at, end = bytes.length) {
+    const zero = bytes.subarray(at, end).indexOf(0)
+    return utf8.decode(bytes.subarray(at, zero < 0 ? end : at + zero)) || null
+}
+
+/* A whole number of 64 bits: a number where it is exact as one, else a BigInt. */
+export const whole = item => (Number.isSafeInteger(Number(item)) ? Number(item) : item)
+
+/* The number that is nearest to a quotient of BigInts: of its first bits, the last of which also says whether something is left, so that it
+ * is rounded once. */
+function quotient(item, by) {
+    const scaled = (item < 0n ? -item : item) << 128n
+    const nearest = Number(scaled / by | (scaled % by === 0n ? 0n : 1n)) / 2 ** 128
+    return item < 0n ? -nearest : nearest
+}
+
+/* What makes the value of an item: `item / scale - offset`, the number that is nearest to it. */
+export function scaler(entry) {
+    const { scale, offset } = entry, shift = scale * offset
+    if (scale === 1 && offset === 0) return entry.kind === FLOAT || entry.width < 8 ? item => item : whole
+    if (entry.kind === FLOAT) return item => item / scale - offset
+    if (entry.width < 8) return item => (item - shift) / scale
+    return item => (scale === 1 ? whole(item - BigInt(offset)) : quotient(item - BigInt(shift), BigInt(scale)))
+}
+
+/* What reads an item in the view of a block, as a number or, of eight bytes, as a BigInt; of a float the number that it is. */
+function itemReader({ kind, width }) {
+    if (kind === FLOAT) return width === 4 ? (view, at) => view.getFloat32(at, true) : (view, at) => view.getFloat64(at, true)
+    if (kind === SIGNED)
+        return {
+            1: (view, at) => view.getInt8(at), 2: (view, at) => view.getInt16(at, true), 4: (view, at) => view.getInt32(at, true),
+            8: (view, at) => view.getBigInt64(at, true),
+        }[width]
+    return bitsReader(width)
+}
+
+/* What reads the bits of an item. */
+function bitsReader(width) {
+    return {
+        1: (view, at) => view.getUint8(at), 2: (view, at) => view.getUint16(at, true), 4: (view, at) => view.getUint32(at, true),
+        8: (view, at) => view.getBigUint64(at, true),
+    }[width]
+}
+
+/* What a definition says of a field: its name and unit, its number, and where and how its items stand in a message's block. `index` is the
+ * developer data index of a developer field, else null. */
+export class Entry {
+    constructor(view, bytes, at) {
+        const size = view.getUint16(at, true)
+        this.number = bytes[at + 4]
+        this.index = bytes[at + 5] === 1 ? bytes[at + 6] : null
+        this.baseType = bytes[at + 7]
+        this.kind = bytes[at + 8]
+        this.width = bytes[at + 9]
+        this.count = bytes[at + 10]
+        this.decimals = bytes[at + 11]
+        this.begins = view.getUint32(at + 12, true)
+        this.scale = view.getUint32(at + 16, true)
+        this.offset = view.getUint32(at + 20, true)
+        const invalid = view.getBigUint64(at + 24, true)
+        this.invalid = this.width === 8 ? invalid : Number(invalid)
+        this.name = textAt(bytes, at + 32)
+        this.unit = textAt(bytes, at + view.getUint16(at + 2, true))
+        this.size = size
+        this.bits = bitsReader(this.width)
+        this.item = itemReader(this)
+        this.scaled = scaler(this)
+        this.read = reader(this)
+    }
+
+    /* Whether it is one number, and not several, a text or bytes. */
+    get isNumber() { return this.kind <= FLOAT && this.count === 1 }
+
+    /* As the CSV text names a field without a name. */
+    get numbers() { return this.index === null ? `field_${this.number}` : `dev_${this.index}_${this.number}` }
+}
+
+/* What reads the value of a field in the block of a message, which begins at a place. */
+function reader(entry) {
+    const { begins, count, width, invalid } = entry
+    if (count === 0) return () => null
+    if (entry.kind === TEXT) return ({ bytes }, at) => textAt(bytes, at + begins, at + begins + count)
+    if (entry.kind === BYTES)
+        return ({ bytes }, at) => {
+            const data = bytes.slice(at + begins, at + begins + count)
+            return invalid === 0xff && data.every(byte => byte === 0xff) ? null : data
+        }
+    const one = (view, at) => (entry.bits(view, at) === invalid ? null : entry.scaled(entry.item(view, at)))
+    if (count === 1) return ({ view }, at) => one(view, at + begins)
+    return ({ view }, at) => Array.from({ length: count }, (_, k) => one(view, at + begins + k * width))
+}
+
+/* The items as the file has them, of floats their bits; all bytes of a text or of bytes. */
+export function rawOf(entry, { view, bytes }, at) {
+    if (entry.kind >= TEXT) return bytes.slice(at + entry.begins, at + entry.begins + entry.count)
+    const read = entry.kind === FLOAT ? entry.bits : entry.item
+    const items = Array.from({ length: entry.count }, (_, k) => {
+        const item = read(view, at + entry.begins + k * entry.width)
+        return typeof item === "bigint" ? whole(item) : item
+    })
+    return entry.count === 1 ? items[0] : items
+}
+
+/* A whole number in the unit of its field, as text with the decimals that its scale needs. */
+function decimal(entry, item) {
+    const ten = 10n ** BigInt(entry.decimals), scale = BigInt(entry.scale)
+    const number = (BigInt(item) - scale * BigInt(entry.offset)) * ten / scale
+    const digits = String(number < 0n ? -number : number).padStart(entry.decimals + 1, "0"), point = digits.length - entry.decimals
+    return (number < 0n ? "-" : "") + digits.slice(0, point) + (entry.decimals ? `.${digits.slice(point)}` : "")
+}
+
+/* A value, but whole numbers as text, with as many decimals as `toCsv` writes. */
+export function exactOf(entry, part, at) {
+    const value = entry.read(part, at)
+    if (entry.kind >= FLOAT || value === null) return value
+    const raw = rawOf(entry, part, at)
+    return Array.isArray(value) ? value.map((one, k) => (one === null ? null : decimal(entry, raw[k]))) : decimal(entry, raw)
+}
+
+const HIDING = /^(\.|timestamp$|field_\d+$|dev_\d+_\d+$)/
+
+/* What the messages of a definition have: the number and name of the message, and its fields, each by its keys. */
+export class Definition {
+    constructor(bytes) {
+        const view = new DataView(bytes.buffer, bytes.byteOffset, bytes.byteLength)
+        const count = view.getUint16(34, true) + view.getUint16(36, true)
+        this.number = view.getUint16(32, true)
+        this.isCounted = (view.getUint16(38, true) & 2) !== 0
+        this.name = textAt(bytes, 40)
+        this.entries = []
+        let at = 40 + ((bytes.subarray(40).indexOf(0) + 8) & ~7)
+        for (let k = 0; k < count; k++) {
+            this.entries.push(new Entry(view, bytes, at))
+            at += this.entries[k].size
+        }
+        this.byName = new Map()
+        this.byNumbers = new Map()
+        // Of several fields with one key the first counts.
+        for (const entry of this.entries) {
+            if (!this.byNumbers.has(entry.numbers)) this.byNumbers.set(entry.numbers, entry)
+            if (entry.name !== null && !this.byName.has(entry.name)) this.byName.set(entry.name, entry)
+        }
+        this.labels = this.#labels()
+    }
+
+    /* Each field once, by its name where it has one of its own that is taken for nothing else, and else by its numbers. */
+    #labels() {
+        const labels = new Map()
+        for (const entry of this.byNumbers.values()) {
+            const hides = entry.index !== null && entry.name !== null && HIDING.test(entry.name)
+            const named = entry.name !== null && !hides && this.byName.get(entry.name) === entry
+            labels.set(named ? entry.name : entry.numbers, entry)
+        }
+        return labels
+    }
+
+    /* The field that a key names, or undefined: a label or a name, a number, or of a developer field [index, number]. */
+    entry(key) {
+        return typeof key === "string" ? this.labels.get(key) ?? this.byName.get(key) : this.byNumbers.get(labelOf(key))
+    }
+}
+
+/* A key as text: a name as it is, a number as `field_N`, and [index, number] as `dev_I_N`. */
+export function labelOf(key) {
+    if (typeof key === "string") return key
+    if (typeof key === "number") return `field_${key}`
+    if (Array.isArray(key) && key.length === 2) return `dev_${key[0]}_${key[1]}`
+    throw new TypeError("a field is named by its name, its number, or [developer data index, number]")
+}

@@ -1,0 +1,178 @@
+/* What the WebAssembly module must answer: what the library for x86-64 answers, byte for byte, of all bytes at once, in pieces, and where memory is
+ * refused: node wasm_cases.mjs FOLDER, in which tests/wasm_expected.py has laid inputs and answers. */
+import assert from "node:assert/strict"
+import { readFileSync, readdirSync } from "node:fs"
+import { join } from "node:path"
+import { gzipSync } from "node:zlib"
+import { OutOfMemory, Trapped, WrongModule } from "../js/src/answers.mjs"
+import { copied } from "../js/src/core.mjs"
+import { Stream, VERSION, open } from "../js/gazhdor.mjs"
+import { MODULE, RIDE, bytesAt, cut, exportsOf, holds, done, joined, opened, random, sha256, thrown, trapping } from "./wasm_tools.mjs"
+
+const folder = process.argv[2]
+const expected = JSON.parse(readFileSync(join(folder, "expected.json"), "utf8"))
+const bytesOf = name => bytesAt(join(folder, name))
+const KINDS = { show: "show", table: "table", to_csv: "toCsv", messages: "blocks" }
+const NUMBERS = { check: 0, show: 1, table: 2, to_csv: 3, messages: 4 }
+const core = await opened()
+
+/* The numbers of an answer, as the library has them. */
+function numbers(answer) {
+    const reasons = ["HeaderSize", "Protocol", "NoFit", "Signature", "HeaderSum", "ReservedBit", "UndefinedLocal", "Overrun", "Architecture", "FileSum", "TooManyFiles"]
+    return [answer.status, reasons.indexOf(answer.reason) + 1, answer.place ?? 0, answer.row ?? 0, answer.column ?? 0, answer.files]
+}
+
+function same(answer, made, told, what) {
+    assert.deepEqual(numbers(answer), told.answer, what)
+    assert.equal(made.length, told.length, what)
+    assert.equal(sha256(made), told.sha256, what)
+}
+
+await holds("the module has all calls, no import, and is no larger than it may be", async () => {
+    const calls = ["check", "table", "to_csv", "show", "messages", "from_csv", "open", "feed", "finish", "close", "alloc", "free", "version"]
+    const module = await WebAssembly.compile(MODULE)
+    assert.deepEqual(WebAssembly.Module.imports(module), [])
+    assert.deepEqual(WebAssembly.Module.exports(module).map(({ name }) => name).sort(), [...calls.map(name => `gazhdor_${name}`), "memory"].sort())
+    assert.ok(MODULE.length <= 500 * 1024, `${MODULE.length} bytes`)
+    assert.ok(gzipSync(MODULE, { level: 9 }).length <= 160 * 1024, "gzipped")
+    assert.equal(VERSION, readFileSync("VERSION", "utf8").trim())
+    assert.equal(JSON.parse(readFileSync("js/package.json", "utf8")).version, VERSION)
+})
+
+await holds("each call on each input", () => {
+    for (const { name, check, calls } of expected) {
+        const bytes = bytesOf(name)
+        if (check !== undefined) assert.deepEqual(numbers(core.check(bytes)), check, name)
+        for (const [call, told] of Object.entries(calls)) same(...core.make(call, bytes, copied), told, `${call} of ${name}`)
+    }
+    assert.ok(expected.filter(({ name }) => name.endsWith(".damaged")).length >= 1000)
+})
+
+await holds("no call keeps memory", () => {
+    const size = core.size
+    for (let k = 0; k < 300; k++) for (const call of Object.keys(KINDS)) core.make(call, RIDE, copied)
+    assert.equal(core.size, size)
+})
+
+/* What a stream makes of pieces, with what it says in the end. */
+function fed(call, pieces) {
+    const at = core.open(NUMBERS[call]), parts = []
+    let answer
+    try {
+        for (const piece of pieces) {
+            let made
+            [answer, made] = core.feed(at, piece, copied)
+            parts.push(made)
+            if (!answer.good) return [answer, joined(parts)]
+        }
+        const [found, made] = core.finish(at, copied)
+        return [found, joined([...parts, made])]
+    } finally {
+        core.close(at)
+    }
+}
+
+const known = readdirSync(folder).filter(name => /^(empty|zeros|short|long|message|orders|developer|both)\.fit$/.test(name))
+const told = Object.fromEntries(expected.map(one => [one.name, one]))
+
+function seePieces(name, pieces, what) {
+    for (const [call, one] of Object.entries(told[name].calls)) same(...fed(call, pieces), { ...one, answer: told[name].check }, `${call} of ${name} ${what}`)
+    assert.deepEqual(numbers(fed("check", pieces)[0]), told[name].check)
+}
+
+await holds("known files in each two pieces, and in pieces of each size", () => {
+    assert.equal(known.length, 8)
+    for (const name of known) {
+        const bytes = bytesOf(name)
+        for (let at = 0; at <= bytes.length; at++) seePieces(name, cut(bytes, [at]), `cut at ${at}`)
+        for (let size = 1; size < bytes.length; size++) {
+            const ends = Array.from({ length: Math.floor((bytes.length - 1) / size) }, (_, k) => (k + 1) * size)
+            seePieces(name, cut(bytes, ends), `in pieces of ${size}`)
+        }
+    }
+})
+
+await holds("the ride and recordings in random pieces, and damaged ones", () => {
+    const below = random(1)
+    for (const { name } of expected.filter(({ check }) => check !== undefined).slice(0, 300)) {
+        const bytes = bytesOf(name), ends = Array.from({ length: 1 + below(20) }, () => below(bytes.length + 1)).sort((a, b) => a - b)
+        seePieces(name, cut(bytes, ends), `cut at ${ends}`)
+    }
+    seePieces("ride.fit", Array.from(RIDE, byte => Uint8Array.of(byte)), "byte by byte")
+})
+
+await holds("a stream that is refused memory, and one of no such kind", async () => {
+    assert.equal(core.open(5), 0n)
+    assert.equal(core.open(0xffffffff), 0n)
+})
+
+const LEAST = 65536 * 24
+
+/* Calls with a memory that has so many bytes at most: each gives what it always gives, or says that memory was refused, and the next call works. */
+async function seeRefused(maximum, recording, texts) {
+    const gazhdor = await open(MODULE, { maximum })
+    let refused = 0
+    for (const call of ["tableText", "toCsv", "show", "mend"]) {
+        try {
+            const made = gazhdor[call](recording)
+            assert.equal(sha256(made), texts[call])
+        } catch (error) {
+            assert.ok(error instanceof OutOfMemory, `${call}: ${error}`)
+            refused++
+        }
+        assert.equal(`${gazhdor.check(RIDE)}`, "ok")
+        assert.ok(gazhdor.size <= maximum)
+    }
+    return refused
+}
+
+await holds("memory that is refused is an answer", async () => {
+    const recording = bytesOf("plain.fit"), whole = await open(MODULE)
+    const texts = Object.fromEntries(["tableText", "toCsv", "show", "mend"].map(call => [call, sha256(whole[call](recording))]))
+    const counts = []
+    for (let pages = 0; pages < 60; pages += 3) counts.push(await seeRefused(LEAST + 65536 * pages, recording, texts))
+    assert.equal(counts[0], 4, `${counts}`)
+    assert.ok(counts.includes(1) || counts.includes(2), `${counts}`)
+    assert.equal((await seeRefused(2 ** 24, recording, texts)), 0)
+})
+
+await holds("a memory that is too small or too large", async () => {
+    for (const maximum of [0, 65536, 2 ** 33, -1, NaN, Infinity]) await assert.rejects(open(MODULE, { maximum }), RangeError)
+    await assert.rejects(open(await WebAssembly.compile(MODULE), { maximum: 2 ** 24 }), TypeError)
+})
+
+await holds("bytes that don't fit into the memory, and a stream of them that does", async () => {
+    const gazhdor = await open(MODULE, { maximum: LEAST + 2 ** 20 }), many = joined(Array(2000).fill(RIDE))
+    thrown(OutOfMemory, () => gazhdor.tableText(many))
+    assert.equal(`${gazhdor.check(many)} ${gazhdor.check(many).files}`, "ok 2000")
+    let count = 0
+    for (const row of gazhdor.table(many)) count += row.file === 2000
+    assert.equal(count, 155)
+    assert.ok(gazhdor.size <= LEAST + 2 ** 20)
+})
+
+await holds("a module that traps says so, and another one works", async () => {
+    const calls = { check: "check", table: "tableText", to_csv: "toCsv", show: "show", messages: null, feed: "columns" }
+    assert.ok(exportsOf(MODULE).gazhdor_table !== undefined)
+    for (const [call, name] of Object.entries(calls).filter(([, name]) => name !== null)) {
+        const gazhdor = await open(trapping(`gazhdor_${call}`)), stream = call === "feed" ? undefined : new Stream(gazhdor, "table")
+        for (let k = 0; k < 2; k++) {
+            const fault = thrown(Trapped, () => gazhdor[name](RIDE, "record"))
+            assert.match(fault.message, new RegExp(`within gazhdor_${call} .*open another`))
+        }
+        thrown(Trapped, () => gazhdor.show(RIDE))
+        if (stream !== undefined) thrown(Trapped, () => stream.feed(RIDE))
+        stream?.close()
+        assert.equal(`${(await open(MODULE)).check(RIDE)}`, "ok")
+    }
+})
+
+await holds("what is no module of gazhdor", async () => {
+    await assert.rejects(open(RIDE), WebAssembly.CompileError)
+    await assert.rejects(open(Uint8Array.of(0, 97, 115, 109, 1, 0, 0, 0)), WrongModule)
+    const at = Buffer.from(MODULE).indexOf(`${VERSION}\0`), older = MODULE.slice()
+    older[at] += 1
+    await assert.rejects(open(older), /the module is of version 1\..*, and gazhdor.mjs of version 0\./)
+})
+
+done("tests/wasm, calls")

@@ -1,0 +1,168 @@
+/* What docs/ride.html must show in Chromium, of a good file, a cut one and hostile ones, and that nothing goes to a network:
+ *
+ *     node wasm_page.mjs CHROMIUM FOLDER          FOLDER is for what is saved
+ *     node wasm_page.mjs CHROMIUM FOLDER FILE..   writes pictures of FILEs as a desktop and a phone show them, to be looked at */
+import assert from "node:assert/strict"
+import { existsSync, readFileSync, writeFileSync } from "node:fs"
+import { createServer } from "node:http"
+import { basename, join, resolve } from "node:path"
+import { pathToFileURL } from "node:url"
+import { open } from "../js/gazhdor.mjs"
+import { Browser, Page } from "./wasm_browser.mjs"
+import { RIDE, done, holds } from "./wasm_tools.mjs"
+
+const [program, folder, ...files] = process.argv.slice(2)
+const URL_OF_PAGE = pathToFileURL(resolve("docs/ride.html")).href
+const gazhdor = await open()
+const browser = new Browser(program)
+await browser.ask("Browser.setDownloadBehavior", { behavior: "allow", downloadPath: resolve(folder) })
+
+/* Lays a file down under a name, for the page to be given. */
+function laid(name, bytes) {
+    const path = resolve(folder, name)
+    writeFileSync(path, bytes)
+    return path
+}
+
+/* Presses a button of the page, and returns the bytes that it saves. */
+async function saved(page, call, name) {
+    await page.value(`document.querySelector('[data-call=${call}]').click()`)
+    await page.until("document.querySelector('#saved').textContent !== ''")
+    assert.ok((await page.text("#saved")).startsWith(`${name}: `), await page.text("#saved"))
+    for (let k = 0; k < 100 && !existsSync(join(folder, name)); k++) await new Promise(wait => setTimeout(wait, 50))
+    return readFileSync(join(folder, name))
+}
+
+/* The page asked for nothing but itself, and no script failed. */
+function seeQuiet(page) {
+    assert.deepEqual(page.faults, [])
+    assert.deepEqual(page.requests.filter(url => !/^(file|data|blob):/.test(url)), [])
+}
+
+async function pictures(path) {
+    for (const [name, size] of [["desktop", { width: 1200, height: 900 }], ["phone", { width: 390, height: 844, scale: 2 }]]) {
+        const page = await Page.open(browser, URL_OF_PAGE, size)
+        await page.give(resolve(path))
+        writeFileSync(join(folder, `${basename(path)}.${name}.png`), await page.picture())
+        console.log(`${name}: ${await page.text("#finding")}`)
+        seeQuiet(page)
+    }
+}
+
+async function seeGood() {
+    const page = await Page.open(browser, URL_OF_PAGE)
+    await page.give(laid("ride.fit", RIDE))
+    assert.match(await page.text("#finding"), /^ride\.fit: a good FIT file\n+3,260 bytes, read in \d+ ms$/)
+    assert.match(await page.text("#summary"), /8\.56 km/)
+    assert.equal(await page.value("document.querySelectorAll('#drawn .plot').length"), 3)
+    for (const chart of ["#altitude", "#speed", "#track"]) assert.ok(await page.value(`document.querySelector('${chart} .drawn').getAttribute('d').length > 500`), chart)
+    assert.match(await page.text("#altitude output"), /^406 to 425 m$/)
+    assert.equal(await page.value("document.querySelectorAll('#tables tbody tr').length"), 1)
+    assert.match(await page.text("#counts"), /155 record/)
+    assert.ok(await page.value("document.querySelector('#mended').hidden"))
+    assert.deepEqual(await saved(page, "table", "ride.table.csv"), Buffer.from(gazhdor.tableText(RIDE)))
+    assert.deepEqual(await saved(page, "rows", "ride.csv"), Buffer.from(gazhdor.toCsv(RIDE)))
+    assert.deepEqual(await saved(page, "lines", "ride.txt"), Buffer.from(gazhdor.show(RIDE)))
+    seeQuiet(page)
+}
+
+async function seeCut() {
+    const page = await Page.open(browser, URL_OF_PAGE), cut = RIDE.subarray(0, 2000)
+    await page.give(laid("cut.fit", cut))
+    assert.match(await page.text("#finding"), /^cut\.fit: truncated at byte 2000\n+The bytes end before the file does: .*What comes before that is shown/)
+    assert.deepEqual(await saved(page, "mended", "cut-mended.fit"), Buffer.from(gazhdor.mend(cut)))
+    await page.give(join(folder, "cut-mended.fit"))
+    assert.match(await page.text("#finding"), /a good FIT file/)
+    await page.give(laid("text.fit", Buffer.from("<gpx></gpx>")))
+    assert.match(await page.text("#finding"), /^text\.fit: refused at byte 1: Protocol\n/)
+    assert.ok(await page.value("document.querySelector('#shown').hidden"))
+    await page.give(laid("none.fit", Buffer.alloc(0)))
+    assert.match(await page.text("#finding"), /^none\.fit: truncated at byte 0\n/)
+    seeQuiet(page)
+}
+
+/* A file whose values and names are as odd as may be: floats and numbers of 64 bits where numbers are expected, times before all times, the corners
+ * of the world, a text as a heart rate, and a name that would be HTML. */
+function hostile() {
+    const record = (time, lat, long, altitude, heart, power) => `data,1,,record,,,\nfield,timestamp,${time},s,,,\nfield,position_lat,${lat},semicircles,,,
+field,position_long,${long},semicircles,,,\nfield,altitude,${altitude},m,,,\nfield,heart_rate,${heart},bpm,,,\nfield,power,${power},watts,,,\n`
+    return gazhdor.fromCsv(`row,a,b,c,d,e,f
+file,12,32,0,none,,
+def,0,0,little,18,4,
+fdef,2,8,143,,,
+fdef,9,8,137,,,
+fdef,7,8,142,,,
+fdef,5,24,7,,,
+data,0,,session,,,
+field,start_time,18446744073709551614,s,,,
+field,total_distance,0x7E37E43C8800759C,m,,,
+field,total_elapsed_time,-9223372036854775.808,s,,,
+field,sport,<img src=x onerror=1>,,,,
+def,1,0,big,20,6,
+fdef,253,4,134,,,
+fdef,0,4,133,,,
+fdef,1,4,133,,,
+fdef,2,8,143,,,
+fdef,3,12,7,,,
+fdef,7,8,137,,,
+${record(4294967294, 2147483646, -2147483648, "3689348814741909822.8", "<b>x</b>", "0x7FF0000000000000")}${record(5, -2147483648, 2147483646, "-500.0", "</script>", "0xFFF0000000000000")}${
+record(1000000000, 0, 0, "", "", "0x7E37E43C8800759C")}end,,,,,,
+`)
+}
+
+async function seeHostile() {
+    const page = await Page.open(browser, URL_OF_PAGE), name = "<img src=x onerror=document.title='bad'>.fit"
+    await page.give(laid(name, hostile()))
+    assert.ok((await page.text("#finding")).startsWith(`${name}: a good FIT file`))
+    assert.equal(await page.value("document.images.length + document.querySelectorAll('b img, td b, main script').length"), 0)
+    assert.equal(await page.value("document.title"), "A ride that stays here")
+    await page.give(laid("cut <i>.fit", hostile().subarray(0, -5)))
+    assert.match(await page.text("#finding"), /truncated at byte/)
+    seeQuiet(page)
+}
+
+/* A phone's page has nothing beside its edge. */
+async function seePhone() {
+    const page = await Page.open(browser, URL_OF_PAGE, { width: 360, height: 780, scale: 2 })
+    for (const [name, bytes] of [["ride.fit", RIDE], ["cut.fit", RIDE.subarray(0, 2000)], [`${"long".repeat(60)}.fit`, hostile()]]) {
+        await page.give(laid(name, bytes))
+        assert.ok(await page.value("document.documentElement.scrollWidth <= 360 && document.body.scrollWidth <= 360"), name)
+    }
+    seeQuiet(page)
+}
+
+/* Whatever a script in the page tries, a server on this machine hears nothing. */
+async function seeNetwork() {
+    let heard = 0
+    const server = createServer((request, response) => { heard++; response.end() })
+    await new Promise(listening => server.listen(0, "127.0.0.1", listening))
+    const url = `http://127.0.0.1:${server.address().port}/`, page = await Page.open(browser, URL_OF_PAGE)
+    await page.value(`(async () => {
+        const tries = [() => fetch("${url}"), () => navigator.sendBeacon("${url}", "x"), () => { new Image().src = "${url}" },
+            () => { const request = new XMLHttpRequest(); request.open("GET", "${url}"); request.send() }, () => new EventSource("${url}"),
+            () => new WebSocket("${url.replace("http", "ws")}"), () => import("${url}"), () => new Worker("${url}"),
+            () => { const form = document.createElement("form"); form.action = "${url}"; form.method = "post"; document.body.append(form); form.submit() },
+            () => { const frame = document.createElement("iframe"); frame.src = "${url}"; document.body.append(frame) },
+            () => { const link = document.createElement("link"); link.rel = "stylesheet"; link.href = "${url}"; document.head.append(link) }]
+        for (const one of tries) try { await one() } catch {}
+    })()`)
+    await new Promise(wait => setTimeout(wait, 500))
+    const alone = heard
+    await fetch(url) // that the server hears at all
+    server.close()
+    assert.deepEqual([alone, heard], [0, 1])
+}
+
+try {
+    if (files.length) for (const path of files) await pictures(path)
+    else {
+        await holds("a good file", seeGood)
+        await holds("cut files, a mended one, and what is none", seeCut)
+        await holds("hostile files", seeHostile)
+        await holds("a phone's width", seePhone)
+        await holds("nothing goes to a network", seeNetwork)
+        done("tests/wasm, page")
+    }
+} finally {
+    await browser.close()
+}

@@ -1,0 +1,176 @@
+/* What streams of the wrapper must do, and the Worker: node --expose-gc wasm_streams.mjs */
+import assert from "node:assert/strict"
+import { Worker } from "node:worker_threads"
+import { FitError, Refused, Truncated } from "../js/src/answers.mjs"
+import { Stream, open } from "../js/gazhdor.mjs"
+import { RIDE, cut, done, holds, joined, random, thrown } from "./wasm_tools.mjs"
+
+const gazhdor = await open()
+const WRONG = RIDE.slice()
+WRONG[2500] ^= 1
+const CUT = RIDE.subarray(0, 2500)
+const PIECES = cut(RIDE, [100, 101, 1500, 1500, 3000])
+const TEXTS = { table: "tableText", toCsv: "toCsv", show: "show" }
+
+const places = messages => messages.map(message => `${message.place} ${JSON.stringify(message)}`)
+
+/* What a stream makes of pieces, the fault with what came before it included. */
+function fed(kind, pieces, options) {
+    const stream = new Stream(gazhdor, kind, options), made = []
+    try {
+        for (const piece of pieces) made.push(stream.feed(piece))
+        made.push(stream.finish())
+        return [made.flat(), null, stream.files]
+    } catch (fault) {
+        if (!(fault instanceof FitError)) throw fault
+        return [[...made, fault.before].flat(), fault, stream.files]
+    }
+}
+
+await holds("texts and messages in pieces", () => {
+    for (const [kind, call] of Object.entries(TEXTS)) assert.equal(fed(kind, PIECES)[0].join(""), gazhdor[call](RIDE))
+    assert.deepEqual(places(fed("messages", PIECES)[0]), places([...gazhdor.messages(RIDE)]))
+    assert.deepEqual(places(fed("messages", PIECES, { only: ["lap", 20] })[0]), places([...gazhdor.messages(RIDE, { only: ["lap", 20] })]))
+    assert.deepEqual([fed("check", [...PIECES, RIDE])[0].join(""), fed("check", [...PIECES, RIDE])[2]], ["", 2])
+})
+
+await holds("faults in pieces: what was made before, and the same again", () => {
+    for (const [bytes, kind, place] of [[WRONG, Refused, RIDE.length - 2], [CUT, Truncated, 2500]]) {
+        const [made, fault] = fed("table", cut(bytes, [1200, 2499]))
+        assert.ok(fault instanceof kind && fault.place === place)
+        assert.equal(made.join(""), gazhdor.tableText(bytes, { partial: true }))
+        const stream = new Stream(gazhdor, "messages")
+        const first = thrown(FitError, () => { stream.feed(bytes); stream.finish() })
+        for (const call of [() => stream.feed(RIDE), () => stream.finish(), () => stream.feed(new Uint8Array(0))]) assert.equal(thrown(FitError, call), first)
+        stream.close()
+    }
+})
+
+await holds("what isn't a stream, or isn't open", () => {
+    for (const kind of ["rows", "Table", 2, null, undefined, "__proto__", "toString"]) thrown(TypeError, () => new Stream(gazhdor, kind))
+    thrown(TypeError, () => new Stream(gazhdor, "table", { only: "lap" }))
+    thrown(TypeError, () => new Stream({}, "table"))
+    const stream = new Stream(gazhdor, "table")
+    for (const piece of ["text", null, 5, [1]]) thrown(TypeError, () => stream.feed(piece))
+    assert.equal(stream.feed(RIDE) + stream.finish(), gazhdor.tableText(RIDE))
+    thrown(TypeError, () => stream.feed(RIDE))
+    stream.close()
+    stream.close()
+    thrown(TypeError, () => stream.finish())
+})
+
+await holds("many streams by turns", () => {
+    const below = random(7), kinds = Object.keys(TEXTS), all = Array.from({ length: 40 }, (_, k) => ({ kind: kinds[k % 3], stream: new Stream(gazhdor, kinds[k % 3]), at: 0, text: "" }))
+    while (all.some(one => one.at < RIDE.length)) {
+        const one = all[below(all.length)], end = Math.min(RIDE.length, one.at + below(400))
+        one.text += one.stream.feed(RIDE.subarray(one.at, end))
+        one.at = end
+    }
+    for (const one of all) assert.equal(one.text + one.stream.finish(), gazhdor[TEXTS[one.kind]](RIDE))
+})
+
+await holds("streams that nobody closes are closed", async () => {
+    const other = await open()
+    const use = count => { for (let k = 0; k < count; k++) new Stream(other, "messages").feed(CUT) }
+    const settle = async () => { for (let k = 0; k < 10; k++) { globalThis.gc(); await new Promise(done => setTimeout(done, 5)) } }
+    for (let k = 0; k < 3; k++) use(2000), await settle()
+    const size = other.size
+    for (let k = 0; k < 5; k++) use(2000), await settle()
+    assert.ok(other.size <= size, `${other.size} and ${size}`)
+})
+
+const source = pieces => new ReadableStream({
+    pull(controller) {
+        const next = pieces.shift()
+        next === undefined ? controller.close() : controller.enqueue(next)
+    },
+})
+
+async function taken(readable) {
+    const made = []
+    try {
+        for await (const item of readable) made.push(item)
+        return [made, null]
+    } catch (fault) {
+        return [made, fault]
+    }
+}
+
+await holds("a pair of streams gives all that the bytes make", async () => {
+    for (const [kind, call] of Object.entries(TEXTS)) {
+        const [made, fault] = await taken(source([...PIECES]).pipeThrough(gazhdor.stream(kind)))
+        assert.deepEqual([made.join(""), fault], [gazhdor[call](RIDE), null])
+    }
+    const [messages] = await taken(source([...PIECES]).pipeThrough(gazhdor.stream("messages", { only: "record" })))
+    assert.deepEqual(places(messages), places([...gazhdor.messages(RIDE, { only: "record" })]))
+    const [passed] = await taken(source([...PIECES]).pipeThrough(gazhdor.stream("check")))
+    assert.deepEqual(joined(passed), RIDE)
+    const response = new Response(RIDE).body.pipeThrough(gazhdor.stream("messages"))
+    assert.equal((await taken(response))[0].length, [...gazhdor.messages(RIDE)].length)
+})
+
+await holds("a pair of streams gives all that comes before a fault, and then the fault", async () => {
+    for (const [bytes, kind] of [[WRONG, Refused], [CUT, Truncated]])
+        for (const ends of [[], [1000], [1000, 2400, 2499]]) {
+            const [made, fault] = await taken(source(cut(bytes, ends)).pipeThrough(gazhdor.stream("messages")))
+            const wanted = []
+            thrown(kind, () => { for (const message of gazhdor.messages(bytes, { partial: true })) wanted.push(message) })
+            assert.deepEqual(places(made), places(wanted))
+            assert.ok(fault instanceof kind)
+        }
+    const [passed, fault] = await taken(source(cut(CUT, [1000])).pipeThrough(gazhdor.stream("check")))
+    assert.deepEqual([joined(passed), fault.place], [CUT, 2500])
+})
+
+await holds("no more is sent after a byte that is refused", async () => {
+    let sent = 0, cancelled
+    const upload = new ReadableStream({
+        pull(controller) { sent++; controller.enqueue(sent === 1 ? WRONG : RIDE) },
+        cancel(reason) { cancelled = reason },
+    })
+    const [, fault] = await taken(upload.pipeThrough(gazhdor.stream("table")))
+    assert.ok(fault instanceof Refused && cancelled === fault && sent <= 3, `${sent}`)
+})
+
+await holds("who reads no more, and bytes that break off", async () => {
+    const pair = gazhdor.stream("messages"), writer = pair.writable.getWriter(), reader = pair.readable.getReader()
+    writer.write(RIDE).catch(() => {})
+    assert.equal((await reader.read()).value.name, "file_id")
+    await reader.cancel("enough")
+    await assert.rejects(writer.write(RIDE), error => error === "enough")
+    const broken = gazhdor.stream("table"), fault = new Error("the line broke")
+    broken.writable.abort(fault).catch(() => {})
+    assert.deepEqual(await taken(broken.readable), [[], fault])
+    const [, error] = await taken(source(["text"]).pipeThrough(gazhdor.stream("table")))
+    assert.ok(error instanceof TypeError)
+})
+
+/* One request after another to the Worker, and its answers. */
+async function asked(requests) {
+    const worker = new Worker(new URL("../js/worker.mjs", import.meta.url)), answers = []
+    try {
+        for (const [number, [call, ...words]] of requests.entries()) {
+            const answer = new Promise((done, failed) => worker.once("message", done).once("error", failed))
+            worker.postMessage({ number, call, words })
+            answers.push(await answer)
+        }
+        return answers
+    } finally {
+        await worker.terminate()
+    }
+}
+
+await holds("the Worker", async () => {
+    const requests = [["check", RIDE], ["check", CUT], ["columns", RIDE, "record", ["altitude"]], ["messages", RIDE, { only: "lap" }], ["tableText", RIDE], ["table", RIDE], ["mend", CUT],
+        ["toCsv", CUT], ["fromCsv", gazhdor.toCsv(RIDE)], ["constructor", RIDE], ["check", 5]]
+    const answers = await asked(requests), [good, short, columns, laps, text, rows, mended, fault, bytes, none, five] = answers.map(answer => answer.made ?? answer.error)
+    assert.deepEqual(answers.map(({ number }) => number), requests.map((_, k) => k))
+    assert.deepEqual([good.text, good.files, short.text, short.place], ["ok", 1, "truncated at byte 2500", 2500])
+    assert.deepEqual(columns.altitude, gazhdor.columns(RIDE, "record", ["altitude"]).altitude)
+    assert.deepEqual([laps.length, laps[0].time.getTime(), laps[0].fields.total_distance], [1, Date.UTC(2026, 4, 17, 7, 30), 8558.46])
+    assert.deepEqual([text, rows.length, bytes], [gazhdor.tableText(RIDE), 155, RIDE])
+    assert.ok(gazhdor.check(mended).good)
+    assert.deepEqual([fault.name, fault.place, fault.text, none.name, five.name], ["Truncated", 2500, "truncated at byte 2500", "TypeError", "TypeError"])
+})
+
+done("tests/wasm, streams")

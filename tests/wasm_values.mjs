@@ -1,0 +1,279 @@
+/* What messages, columns and rows must be: the cells of the CSV text and of the table, which the proved library writes, and values worked out by
+ * hand: node wasm_values.mjs FILE.fit.. */
+import assert from "node:assert/strict"
+import { basename } from "node:path"
+import { FitError, OutOfMemory, Refused, TextRefused, TooManyCells, Truncated } from "../js/src/answers.mjs"
+import { degrees, open, when } from "../js/gazhdor.mjs"
+import { RIDE, bytesAt, done, holds, thrown } from "./wasm_tools.mjs"
+
+const gazhdor = await open()
+const files = process.argv.slice(2).map(path => [basename(path), bytesAt(path)])
+assert.ok(files.length >= 8)
+
+/* The cells of a CSV text. */
+function rowsOf(text) {
+    const rows = []
+    let row = [], cell = "", at = 0
+    while (at < text.length) {
+        let end = at
+        if (text[at] === '"') {
+            do end = text.indexOf('"', end + 1) + 1; while (text[end] === '"')
+            cell = text.slice(at + 1, end - 1).replaceAll('""', '"')
+        } else {
+            while (text[end] !== "," && text[end] !== "\n") end++
+            cell = text.slice(at, end)
+        }
+        at = end
+        row.push(cell)
+        if (text[at++] === "\n") {
+            rows.push(row)
+            row = []
+        }
+    }
+    return rows
+}
+
+const hex = (number, digits) => `0x${BigInt(number).toString(16).toUpperCase().padStart(digits, "0")}`
+const hexBytes = bytes => `0x${Buffer.from(bytes).toString("hex").toUpperCase()}`
+
+/* The cell of a field by docs/CSV.md, from what the message says of it. */
+function cellOf(field) {
+    const { raw, exact, baseType } = field
+    if (raw instanceof Uint8Array) {
+        if (raw.length === 0) return ""
+        const zero = raw.findLastIndex(byte => byte !== 0) + 1, text = Buffer.from(raw.subarray(0, zero)).toString()
+        const isText = baseType === 7 && Buffer.from(text).equals(Buffer.from(raw.subarray(0, zero))) && !/[\x00-\x1f\x7f]/.test(text) && !text.startsWith("0x")
+        return isText ? text : hexBytes(raw)
+    }
+    const items = Array.isArray(raw) ? raw : [raw]
+    if (baseType === 0x88 || baseType === 0x89) return items.map(item => hex(item, baseType === 0x88 ? 8 : 16)).join("|")
+    return Array.isArray(exact) ? exact.map(item => item ?? "").join("|") : exact ?? ""
+}
+
+const timeText = time => (time instanceof Date ? time.toISOString().replace(".000Z", "Z") : time ?? "")
+
+/* Whether a value is the number that is nearest to its text. */
+function seeValue(value, exact, what) {
+    if (Array.isArray(value)) value.forEach((one, k) => seeValue(one, exact[k], what))
+    else if (typeof exact === "string" && typeof value === "bigint") assert.ok(!Number.isSafeInteger(Number(value)) && `${value}` === exact, what)
+    else if (typeof exact === "string" && typeof value === "number") assert.equal(value, Number(exact), what)
+}
+
+function seeMessage(message, [, local, offset, name, time], cells) {
+    const what = `${name} at ${message.place}`, { fields } = message
+    assert.equal(message.name ?? `message_${message.number}`, name)
+    assert.deepEqual([String(message.local), message.timeOffset === null ? "" : String(message.timeOffset), timeText(message.headerTime)], [local, offset, time], what)
+    assert.equal(fields.length, cells.length, what)
+    fields.forEach((field, k) => {
+        const [kind, label, cell, unit] = cells[k]
+        assert.equal(field.developer === null, kind === "field", what)
+        assert.equal(field.name ?? (field.developer === null ? `field_${field.number}` : `dev_${field.developer}_${field.number}`), label, what)
+        assert.equal(field.unit ?? "", unit, what)
+        assert.equal(cellOf(field), cell, `${what}: ${label}`)
+        const first = fields.findIndex(one => one.number === field.number && one.developer === field.developer) === k
+        if (first) assert.deepEqual(message.get(field.developer === null ? field.number : [field.developer, field.number]), field.value, what)
+        if (typeof field.value !== "string" && !(field.raw instanceof Uint8Array)) seeValue(field.value, field.exact, `${what}: ${label}`)
+    })
+}
+
+await holds("each field of each message is as in its cell", () => {
+    for (const [name, bytes] of files) {
+        const rows = rowsOf(gazhdor.toCsv(bytes)), messages = gazhdor.messages(bytes)
+        let count = 0
+        for (let k = 0; k < rows.length; k++) {
+            if (rows[k][0] !== "data") continue
+            let end = k + 1
+            while (rows[end][0] === "field" || rows[end][0] === "dev") end++
+            seeMessage(messages.next().value, rows[k], rows.slice(k + 1, end))
+            count++
+        }
+        assert.ok(messages.next().done && (count > 0 || bytes.length < 100), name)
+    }
+})
+
+await holds("rows are those of the table", () => {
+    for (const [, bytes] of files) {
+        const [head, ...lines] = gazhdor.tableText(bytes).trimEnd().split("\n"), rows = [...gazhdor.table(bytes)]
+        assert.equal(rows.length, lines.length)
+        rows.forEach((row, k) => {
+            assert.deepEqual(Object.keys(row), head.split(","))
+            const cells = lines[k].split(",")
+            Object.values(row).forEach((value, at) => assert.equal(at === 1 ? timeText(value) : value ?? "", at === 1 || cells[at] === "" ? cells[at] : Number(cells[at])))
+        })
+    }
+})
+
+const sameNumber = (one, other) => (Number.isNaN(one) ? Number.isNaN(other) : one === other)
+
+await holds("columns are the values of the messages", () => {
+    for (const [file, bytes] of files) {
+        const messages = [...gazhdor.messages(bytes)]
+        for (const number of new Set(messages.map(message => message.number))) {
+            const of = messages.filter(message => message.number === number), columns = gazhdor.columns(bytes, number)
+            const labels = new Set(of.flatMap(message => Object.keys(message.toObject())))
+            labels.delete("timestamp")
+            assert.deepEqual(Object.keys(columns).filter(label => label !== "timestamp").sort(), [...labels].sort(), file)
+            for (const [label, column] of Object.entries(columns)) {
+                assert.equal(column.length, of.length)
+                of.forEach((message, k) => {
+                    const value = label === "timestamp" ? (message.time instanceof Date ? message.time.getTime() : null) : message.get(label) ?? null
+                    if (column instanceof Float64Array) assert.ok(sameNumber(column[k], value === null ? NaN : Number(value)), `${file}: ${label} of ${number}, message ${k}`)
+                    else assert.deepEqual(column[k], value)
+                })
+            }
+        }
+    }
+})
+
+await holds("columns of what a message tells of itself", () => {
+    for (const [, bytes] of files) {
+        const names = { ".file": "file", ".place": "place", ".local": "local", ".seconds": "seconds", ".speed": "speed", ".distance": "distance", ".total_cycles": "totalCycles",
+            ".accumulated_power": "accumulatedPower" }
+        const columns = gazhdor.columns(bytes, "record", [...Object.keys(names), ".latitude", ".longitude", ".time", "no such field"])
+        let k = 0
+        for (const message of gazhdor.messages(bytes, { only: 20 })) {
+            for (const [label, name] of Object.entries(names)) assert.ok(sameNumber(columns[label][k], message[name] === null ? NaN : Number(message[name])), `${label} ${k}`)
+            if (message.position !== null) assert.deepEqual([columns[".latitude"][k], columns[".longitude"][k]], [message.position.latitude, message.position.longitude])
+            assert.ok(sameNumber(columns[".time"][k], message.time instanceof Date ? message.time.getTime() : NaN))
+            assert.ok(Number.isNaN(columns["no such field"][k]))
+            k++
+        }
+        assert.equal(columns[".file"].length, k)
+    }
+})
+
+const ROWS = `row,a,b,c,d,e,f
+file,14,32,2065,sum,,
+def,0,0,little,206,5,
+fdef,0,1,2,,,
+fdef,1,1,2,,,
+fdef,2,1,2,,,
+fdef,3,16,7,,,
+fdef,8,8,7,,,
+`
+
+const described = (number, code, name) => `data,0,,field_description,,,
+field,developer_data_index,0,,,,
+field,field_definition_number,${number},,,,
+field,fit_base_type_id,${code},,,,
+field,field_name,${name},,,,
+field,units,,,,,
+`
+
+await holds("names that would hide others, and numbers of 64 bits", () => {
+    const names = ["timestamp", "field_3", ".time", "__proto__", "heart_rate"]
+    const text = `${ROWS}${names.map((name, k) => described(k, 2, name)).join("")}def,1,0,little,20,5,5
+fdef,253,4,134,,,
+fdef,3,1,2,,,
+fdef,2,8,143,,,
+fdef,200,8,142,,,
+fdef,6,4,136,,,
+${names.map((_, k) => `ddef,${k},1,0,,,\n`).join("")}data,1,,record,,,
+field,timestamp,1000000000,s,,,
+field,heart_rate,120,bpm,,,
+field,altitude,1801439850948198.4,m,,,
+field,field_200,-9007199254740993,,,,
+field,speed,0x40A00000,m/s,,,
+${names.map((name, k) => `dev,${name},${k + 1},,,,\n`).join("")}end,,,,,,
+`
+    const [, , , , , message] = gazhdor.messages(gazhdor.fromCsv(text))
+    assert.deepEqual(Object.keys(message.toObject()).sort(), ["__proto__", "altitude", "dev_0_0", "dev_0_1", "dev_0_2", "dev_0_4", "field_200", "heart_rate", "speed", "timestamp"].sort())
+    assert.deepEqual([message.get("timestamp"), message.get("heart_rate"), message.get([0, 4]), message.get("field_3"), message.get(3)], [1000000000, 120, 5, 2, 120])
+    assert.equal(message.get("__proto__"), 4)
+    assert.equal(message.get("field_200"), -9007199254740993n)
+    // (9007199254740992 + 2500) / 5 - 500, whose nearest number has the text of the cell
+    assert.equal(message.get("altitude"), 1801439850948198.4)
+    assert.equal(message.field("altitude").exact, "1801439850948198.4")
+    assert.equal(message.time.toISOString(), "2021-09-08T01:46:40.000Z")
+    assert.deepEqual(JSON.parse(JSON.stringify(message)).fields.field_200, "-9007199254740993")
+    const columns = gazhdor.columns(gazhdor.fromCsv(text), "record")
+    assert.deepEqual([columns.timestamp[0], columns.heart_rate[0], columns.dev_0_4[0], columns["__proto__"][0]], [1631065600000, 120, 5, 4])
+})
+
+await holds("names, units, times and what isn't there", () => {
+    const [first] = gazhdor.messages(RIDE, { only: "record" })
+    assert.deepEqual([first.name, first.number, first.local, first.file], ["record", 20, 5, 1])
+    assert.deepEqual([first.unit("altitude"), first.get("altitude"), first.has("power"), first.get("power"), first.unit("power"), first.field("power")], ["m", 408, false, undefined, undefined, undefined])
+    assert.equal(first.time.toISOString(), "2026-05-17T07:30:00.000Z")
+    assert.ok(Math.abs(first.position.latitude - 47.3) < 1e-7 && Math.abs(first.position.longitude - 8.568) < 1e-7)
+    assert.deepEqual(first.values("altitude"), [408])
+    assert.deepEqual(first.values("power"), [])
+    assert.equal(String(first.field("altitude")), "altitude=408 m")
+    assert.deepEqual([...new Map(first).keys()], first.fields.map(field => field.name))
+    assert.equal(degrees(2 ** 30), 90)
+    assert.deepEqual([when(0), when(268435455), when(268435456).toISOString(), when(null), when(undefined)], ["system+0", "system+268435455", "1998-07-03T21:24:16.000Z", null, null])
+    thrown(TypeError, () => first.get({}))
+    thrown(TypeError, () => when("1"))
+})
+
+await holds("only some messages", () => {
+    const all = [...gazhdor.messages(RIDE)]
+    for (const [only, wanted] of [["lap", ["lap"]], [20, ["record"]], [["lap", 20], ["lap", "record"]], [new Set(["no such"]), []], [[], []]])
+        assert.deepEqual([...gazhdor.messages(RIDE, { only })].map(({ place }) => place), all.filter(({ name }) => wanted.includes(name)).map(({ place }) => place))
+    for (const only of [{}, [null], true, [["lap"]]]) thrown(TypeError, () => gazhdor.messages(RIDE, { only }))
+})
+
+await holds("faults: place and reason, and what comes before", () => {
+    const short = RIDE.subarray(0, 2000), wrong = RIDE.slice()
+    wrong[2500] ^= 1
+    const answer = gazhdor.check(wrong)
+    assert.equal(`${answer}`, `refused at byte ${RIDE.length - 2}: FileSum`)
+    assert.ok(answer.explanation.length > 20 && gazhdor.check(RIDE).explanation === null && gazhdor.check(short).explanation.includes("cut"))
+    const place = thrown(Truncated, () => gazhdor.tableText(short)).place
+    assert.equal(place, 2000)
+    for (const call of ["toCsv", "show", "messages", "table"]) assert.ok(thrown(Truncated, () => gazhdor[call](short)) instanceof FitError)
+    const fault = thrown(Refused, () => gazhdor.columns(wrong, "record"))
+    assert.deepEqual([fault.reason, fault.place, fault.name, fault.before], ["FileSum", RIDE.length - 2, "Refused", null])
+    const made = []
+    thrown(Truncated, () => { for (const row of gazhdor.table(short, { partial: true })) made.push(row) })
+    const whole = gazhdor.columns(short, "record", ["timestamp"], { partial: true }).timestamp.length
+    assert.ok(made.length > 50 && made.length === whole)
+    assert.equal(gazhdor.tableText(short, { partial: true }).trimEnd().split("\n").length, whole + 1)
+    const row = thrown(TextRefused, () => gazhdor.fromCsv(ROWS.replace("206,5", "206,x")))
+    assert.deepEqual([row.row, row.column, row.message, row.place], [3, 6, "row 3 column 6 refused", null])
+    assert.equal(thrown(TextRefused, () => gazhdor.fromCsv("")).message, "row 1 refused")
+})
+
+await holds("a mended file has all records before the fault", () => {
+    for (const [, bytes] of files.filter(([, all]) => all.length > 100))
+        for (const end of [bytes.length - 1, bytes.length >> 1, bytes.length - 40]) {
+            const mended = gazhdor.mend(bytes.subarray(0, end))
+            assert.ok(gazhdor.check(mended).good)
+            assert.equal(gazhdor.tableText(mended), gazhdor.tableText(bytes.subarray(0, end), { partial: true }))
+        }
+    assert.deepEqual(gazhdor.mend(RIDE), RIDE)
+    assert.equal(thrown(Truncated, () => gazhdor.mend(RIDE.subarray(0, 9))).place, 9)
+    assert.equal(thrown(Refused, () => gazhdor.mend(new TextEncoder().encode("<gpx></gpx>"))).reason, "Protocol")
+})
+
+await holds("what may be given as bytes", () => {
+    const shared = new SharedArrayBuffer(RIDE.length), room = new ArrayBuffer(RIDE.length + 7)
+    new Uint8Array(shared).set(RIDE)
+    new Uint8Array(room, 5).set(RIDE.subarray(0, RIDE.length))
+    class Long extends Uint8Array { get length() { return 2 ** 31 } get byteLength() { return 2 ** 31 } get byteOffset() { return 2 ** 20 } }
+    class Short extends Uint8Array { get length() { return 0 } get byteLength() { return 0 } slice() { return [] } }
+    const sources = [RIDE, RIDE.buffer.slice(RIDE.byteOffset, RIDE.byteOffset + RIDE.length), shared, Buffer.from(RIDE), new DataView(room, 5, RIDE.length), new Uint8Array(room, 5, RIDE.length),
+        new Long(RIDE), new Short(RIDE), new Uint8Array(shared)]
+    for (const source of sources) {
+        assert.equal(`${gazhdor.check(source)}`, "ok")
+        assert.equal(gazhdor.tableText(source), gazhdor.tableText(RIDE))
+    }
+    for (const source of [null, undefined, 5, "ride.fit", [1, 2], {}, { buffer: room, byteLength: 9, byteOffset: 0 }, new Proxy(RIDE, {}), Promise.resolve(RIDE)])
+        thrown(TypeError, () => gazhdor.check(source))
+    const gone = new Uint8Array(room)
+    structuredClone(room, { transfer: [room] })
+    thrown(TypeError, () => gazhdor.check(gone))
+    assert.equal(`${gazhdor.check(new Uint8Array(0))}`, "truncated at byte 0")
+})
+
+await holds("columns that would fill the memory", () => {
+    const fields = Array.from({ length: 250 }, (_, k) => `fdef,${k},0,2,,,\n`).join("")
+    const rows = Array.from({ length: 250 }, (_, k) => `field,field_${k},,,,,\n`).join("")
+    const one = gazhdor.fromCsv(`row,a,b,c,d,e,f\nfile,12,32,0,none,,\ndef,0,0,little,1000,250,\n${fields}data,0,,message_1000,,,\n${rows}end,,,,,,\n`)
+    const many = new Uint8Array(one.length * 400000)
+    for (let k = 0; k < 400000; k++) many.set(one, k * one.length)
+    assert.match(thrown(TooManyCells, () => gazhdor.columns(many, 1000)).message, /250 columns|251 columns/)
+    assert.ok(TooManyCells !== OutOfMemory)
+})
+
+done("tests/wasm, values")
