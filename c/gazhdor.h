@@ -136,10 +136,11 @@ enum gazhdor_stream_kind {
     GAZHDOR_STREAM_MESSAGES = 4
 };
 
-/* What is kept between the pieces: the definitions of the current file, what has come of a record, and the checksum; so it needs no
- * more memory for more bytes. It begins as GAZHDOR_CLOSED_STREAM. Only the four calls change it, one at a time. Each of them may be made
- * in another thread: then a lock, a join or the like comes between. It isn't copied, and in the end gazhdor_close gives its memory back.
- * Other threads may use other streams meanwhile. */
+/* What is kept between the pieces: the definitions of the current file and the developer fields that it describes, what has come of a
+ * record, the checksum, and at most 64 KB of memory for the next text; so it needs no more memory for more messages. It begins as
+ * GAZHDOR_CLOSED_STREAM. Only the four calls change it, one at a time. Each of them may be made in another thread: then a lock, a join or
+ * the like comes between. It isn't copied, and in the end gazhdor_close gives its memory back. Other threads may use other streams
+ * meanwhile. */
 typedef struct gazhdor_stream {
     void *at;
 } gazhdor_stream;
@@ -150,9 +151,10 @@ typedef struct gazhdor_stream {
 gazhdor_answer gazhdor_open(gazhdor_stream *stream, uint32_t kind);
 
 /* Takes the next bytes, of any length, and makes the text or the blocks of what they complete: whole lines or rows, and whole blocks.
- * GAZHDOR_GOOD: all bytes so far are good, or begin what is good. GAZHDOR_REFUSED is that of the call above on all bytes so far, and the
- * text is that before the fault; with GAZHDOR_NO_MEMORY it is that of some of it. From then on each call returns the same again, and
- * makes no text. The texts of all calls, one after another, are the text of the call above, of all bytes. */
+ * GAZHDOR_GOOD: all bytes so far are good, or begin what is good; that they end too soon is what gazhdor_finish says. GAZHDOR_REFUSED is
+ * that of the call above on all bytes so far, and the text is that before the fault; with GAZHDOR_NO_MEMORY it is that of some of it. From
+ * then on each call returns the same again, and makes no text. The texts of all calls, one after another, are the text of the call above,
+ * of all bytes. One byte may have 275,163 bytes of rows (docs/C.md). */
 gazhdor_answer gazhdor_feed(gazhdor_stream *stream, const uint8_t *bytes, size_t length, gazhdor_text *text);
 
 /* Where all bytes have come: returns what the call above does of them, and makes what is still to come of its text. This ends nothing:

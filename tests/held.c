@@ -1,11 +1,13 @@
-/* Tests of the memory that the streams of gazhdor.h keep between pieces: held SIZE MOST FILE.. Each FILE is fed in pieces of SIZE bytes to a
- * stream of each kind, whose text is freed after each piece. Then no more than MOST bytes are held, however long the texts were, and none
- * once the stream is closed. Bytes are counted: link with --wrap=malloc, realloc and free. */
+/* Tests of the memory that the streams of gazhdor.h keep between pieces: held FILE.. Each FILE is fed in pieces of 64 KB to a stream of each
+ * kind, whose text is freed after each piece. Then no more than 100,000 bytes are held, however long the texts were, and none once the stream
+ * is closed. So is a file of messages of one byte each, of which the rows are 275,163 bytes. Bytes are counted: link with --wrap=malloc,
+ * realloc and free. */
 #include "gazhdor.h"
 
 #include <malloc.h>
 #include <stdio.h>
 #include <stdlib.h>
+#include <string.h>
 
 static size_t held;
 
@@ -44,9 +46,9 @@ void __wrap_free(void *block)
         }                                                                           \
     } while (0)
 
-enum { KINDS = 5 };
+enum { KINDS = 5, PIECE = 65536, MOST = 100000, HOSTILE = 1000000 };
 
-/* Feeds all of it. Returns how many bytes the greatest text of a piece had. */
+/* Feeds all of it in pieces of that size. Returns how many bytes the greatest text of a piece had. */
 static size_t fed(uint32_t kind, const char *name, const uint8_t *bytes, size_t length, size_t size, size_t most)
 {
     gazhdor_stream stream = GAZHDOR_CLOSED_STREAM;
@@ -71,11 +73,62 @@ static size_t fed(uint32_t kind, const char *name, const uint8_t *bytes, size_t 
     return greatest;
 }
 
+/* Feeds all of it to a stream of each kind. Some text is longer than what may be held: else nothing would be said. */
+static void fed_to_each(const char *name, const uint8_t *bytes, size_t length, size_t size, size_t most)
+{
+    size_t greatest = 0;
+    for (uint32_t kind = 0; kind < KINDS; kind++) {
+        size_t text = fed(kind, name, bytes, length, size, most);
+        greatest = text > greatest ? text : greatest;
+    }
+    WANT(greatest > most, "%s: the greatest text had %zu bytes\n", name, greatest);
+}
+
+/* ---- messages of one byte with long texts */
+
+enum { MESSAGES = 300, TEXT = 255, FIELDS = 255 };
+
+static uint16_t sum_of(const uint8_t *bytes, size_t length)
+{
+    uint16_t sum = 0;
+    for (size_t k = 0; k < length; k++) {
+        sum ^= bytes[k];
+        for (int bit = 0; bit < 8; bit++)
+            sum = (uint16_t)(sum & 1 ? sum >> 1 ^ 0xA001 : sum >> 1);
+    }
+    return sum;
+}
+
+static uint8_t *put(uint8_t *at, const void *bytes, size_t length)
+{
+    return (uint8_t *)memcpy(at, bytes, length) + length;
+}
+
+/* A developer field whose name and unit are quotation marks, and a record message of 255 fields and 255 such fields, all of no bytes. */
+static size_t hostile(uint8_t *bytes)
+{
+    static const uint8_t described[] = { 0x40, 0, 0, 206, 0, 5, 0, 1, 2, 1, 1, 2, 2, 1, 2, 3, TEXT, 7, 8, TEXT, 7, 0, 0, 1, 2 };
+    uint8_t *at = put(bytes + 14, described, sizeof described);
+    at = (uint8_t *)memset(at, '"', 2 * TEXT) + 2 * TEXT;
+    at = put(at, "\x61\0\0\x14\0\xFF", 6);
+    for (int i = 0; i < FIELDS; i++)
+        at = put(at, "\x1C\0\x84", 3);
+    *at++ = FIELDS;
+    for (int i = 0; i < FIELDS; i++)
+        at = put(at, "\1\0\0", 3);
+    at = (uint8_t *)memset(at, 1, MESSAGES) + MESSAGES;
+    size_t data = (size_t)(at - bytes) - 14;
+    uint8_t head[14] = { 14, 0x20, 0, 0, (uint8_t)data, (uint8_t)(data >> 8), 0, 0, '.', 'F', 'I', 'T', 0, 0 };
+    put(bytes, head, sizeof head);
+    uint16_t sum = sum_of(bytes, data + 14);
+    *at++ = (uint8_t)sum;
+    *at++ = (uint8_t)(sum >> 8);
+    return data + 16;
+}
+
 int main(int count, char **words)
 {
-    WANT(count > 3, "usage: held SIZE MOST FILE..\n");
-    size_t size = strtoul(words[1], NULL, 10), most = strtoul(words[2], NULL, 10);
-    for (int i = 3; i < count; i++) {
+    for (int i = 1; i < count; i++) {
         FILE *file = fopen(words[i], "rb");
         WANT(file != NULL && fseek(file, 0, SEEK_END) == 0, "%s\n", words[i]);
         size_t length = (size_t)ftell(file);
@@ -84,14 +137,11 @@ int main(int count, char **words)
         WANT(fread(bytes, 1, length, file) == length, "%s\n", words[i]);
         fclose(file);
         held = 0;
-        size_t greatest = 0;
-        for (uint32_t kind = 0; kind < KINDS; kind++) {
-            size_t text = fed(kind, words[i], bytes, length, size, most);
-            greatest = text > greatest ? text : greatest;
-        }
-        /* Else nothing would be said by a file whose texts are short. */
-        WANT(greatest > most, "%s: the greatest text had %zu bytes\n", words[i], greatest);
+        fed_to_each(words[i], bytes, length, PIECE, MOST);
         __real_free(bytes);
     }
+    static uint8_t bytes[4096];
+    held = 0;
+    fed_to_each("messages of one byte", bytes, hostile(bytes), PIECE, HOSTILE);
     return 0;
 }

@@ -57,9 +57,7 @@ impl Chain {
         ensures { IsTrue result ↔ ((f : OpenFile) × (self.now.current ≡ Some f)
             × (f.part ≡ Part.Nothing) × (cells.now.kind.now ≡ codes "end")) }
     {
-        self.current.is_open
-            && self.current.file.is_between_records()
-            && same(cells.kind, b"end")
+        self.current.is_open && self.current.file.is_between_records() && same(cells.kind, b"end")
     }
 
     /// Takes the row in which the current file ends.

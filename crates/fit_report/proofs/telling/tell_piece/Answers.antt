@@ -137,8 +137,8 @@ pub returns-in_err-skipped-clause-refused : goal.returns-in_err-skipped-clause-r
 returns-in_err-skipped-clause-refused g c =
     let p = err_from_is_err_and c.from_residual.result c.from_residual.ensures.1 in
     let i = c.loop-at.invariant in
-    rw (p.1, p.2) (keeps_after g.R.Report.has_heard g.R.Report.line c.args.decoder.now c.loop-at.decoder [] c.args.piece.now c.split_at.result.1.now c.loop-at.at
-    c.tell_skipped.new.reporter (channel g.K.Sink.contents g.K.Sink.has_failed c.args.sink.now c.tell_skipped.new.sink)
+    rw (p.1, p.2) (keeps_after g.R.Report.has_heard g.R.Report.line c.args.decoder.now c.loop-at.decoder [] c.args.piece.now c.split_at.result.1.now
+    c.loop-at.at c.tell_skipped.new.reporter (channel g.K.Sink.contents g.K.Sink.has_failed c.args.sink.now c.tell_skipped.new.sink)
     i.within i.is_fed c.split_at.ensures.back c.tell_skipped.new.decoder c.in_err-skipped.field-0.0 c.in_err-skipped.ensures.refused)
 
 pub returns-in_err-at-clause-refused : goal.returns-in_err-at-clause-refused
