@@ -81,7 +81,8 @@ said_is_told e l v t fits said = go (defined_at e v.local) refl fits
 
 -- ---- after a message the definitions are the same
 
-pub planned_after : (plans : List (Option Plan)) (e : Environment Global) (o : Option Description) → ArePlanned plans e.places → ArePlanned plans (describe e o).places
+pub planned_after : (plans : List (Option Plan)) (e : Environment Global) (o : Option Description) → ArePlanned plans e.places
+    → ArePlanned plans (describe e o).places
 planned_after plans e None are = are
 planned_after plans e (Some s) are = are
 

@@ -1,5 +1,6 @@
 -- A data message at the front of bytes, and whether it is a field description.
-use Rattle.fit_step.proofs.Common.{◌≡◌, ◌++◌, ◌+◌, ◌≤◌, ◌<◌, ℕ, zero, suc, arith, List, length, take, drop, sym, subst, Some, Option, option_map, IfSome, IsSomeAnd}
+use Rattle.fit_step.proofs.Common.{◌≡◌, ◌++◌, ◌+◌, ◌≤◌, ◌<◌, ℕ, zero, suc, arith, List, length, take, drop, sym, subst}
+use Rattle.fit_step.proofs.Common.{Some, Option, option_map, IfSome, IsSomeAnd}
 use Rattle.fit_step.proofs.Common.{Data, Defined, Values, Environment, defined_at, IsRecord, HasMessage}
 use Rattle.fit_record.specs.declared.message_bytes.MessageBytes.{MessageBytes}
 use Rattle.fit_record.specs.MessageBytes.{message_in}

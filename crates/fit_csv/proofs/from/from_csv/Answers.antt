@@ -10,7 +10,11 @@ returns-clause-chain g c text files bytes input is =
       failed =
           g.S.Source.has_failed c.read_and_convert.new.source;
     })
-    (record { before = g.K.Sink.contents c.args.sink.now; after = g.K.Sink.contents c.read_and_convert.new.sink; failed = g.K.Sink.has_failed c.read_and_convert.new.sink })
+    (record {
+      before = g.K.Sink.contents c.args.sink.now;
+      after = g.K.Sink.contents c.read_and_convert.new.sink;
+      failed = g.K.Sink.has_failed c.read_and_convert.new.sink;
+    })
     input is c.read_and_convert.result c.read_and_convert.ensures.reads
 
 pub returns-clause-reads : goal.returns-clause-reads

@@ -4,7 +4,8 @@ use Rattle.fit_record.specs.Environment.{only, only_byte}
 use Rattle.fit_record.proofs.BytesOfNumbers.{slots, sizes_at, found_at, passed_at, none_left}
 use Rattle.fit_record.proofs.learn.byte_in.Goals as goal
 
-field_at : (fields xs : List FieldDef) (k : ℕ) → xs ≡ fields → k < length xs → slice_get fields k ≡ Some (get_or xs k (record { number = 0; size = 0; code = 0 }))
+field_at : (fields xs : List FieldDef) (k : ℕ) → xs ≡ fields → k < length xs
+    → slice_get fields k ≡ Some (get_or xs k (record { number = 0; size = 0; code = 0 }))
 field_at fields xs k same less = ap (λ l. slice_get l k) (sym same) ∙ slice_get-get_or xs k (record { number = 0; size = 0; code = 0 }) less
 
 pub loop-field-init : goal.loop-field-init
