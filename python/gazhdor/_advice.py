@@ -7,10 +7,10 @@ import re
 from decimal import Decimal
 from typing import Dict, Iterator, List, NamedTuple, Optional, Tuple
 
-from ._profile import Told, name_of, told_of
+from ._profile import Info, name_of, info_of
 
 _MOST = 1 << 26  # A text of more characters gets no advice: it takes some seconds to find the place.
-_NO_TOLD = Told("", "", 1, 0)
+_NO_INFO = Info("", "", 1, 0)
 _BYTE, _STRING, _DESCRIPTION = 13, 7, 206
 # Of the base types that are whole numbers the width, whether they have a sign, and the invalid number.
 _WHOLE = {0: (1, False, 0xFF), 1: (1, True, 0x7F), 2: (1, False, 0xFF), 10: (1, False, 0)}
@@ -156,14 +156,14 @@ def _of_data(rows: _Rows, cells: List[str]) -> Tuple[str, ...]:
 def _of_field(rows: _Rows, value: str) -> Tuple[str, ...]:
     field, message = rows.left[0], rows.numbers[rows.local]
     if field.developer is None:
-        told = told_of(message, field.number) or _NO_TOLD._replace(name=f"field_{field.number}")
+        told = info_of(message, field.number) or _NO_INFO._replace(name=f"field_{field.number}")
     else:
         _, name, unit = rows.described.get((field.developer, field.number), (0, "", ""))
-        told = _NO_TOLD._replace(name=name or f"dev_{field.developer}_{field.number}", unit=unit)
+        told = _NO_INFO._replace(name=name or f"dev_{field.developer}_{field.number}", unit=unit)
     return f"the name is {told.name}", _of_value(field, told, value), f"the unit is {told.unit}" if told.unit else "an empty cell"
 
 
-def _of_value(field: _Field, told: Told, value: str) -> str:
+def _of_value(field: _Field, told: Info, value: str) -> str:
     width = _WHOLE[field.code][0] if field.code in _WHOLE else _FLOATS.get(field.code, 1)
     if not field.size:
         return "an empty cell"
@@ -179,7 +179,7 @@ def _of_value(field: _Field, told: Told, value: str) -> str:
     return next((said for said in (_of_number(item, field.code, told) for item in items) if said), "another number")
 
 
-def _of_number(item: str, code: int, told: Told) -> Optional[str]:
+def _of_number(item: str, code: int, told: Info) -> Optional[str]:
     """What would do in place of a number; None where it is good."""
     width, has_sign, invalid = _WHOLE[code]
     least, most = (-(2 ** (8 * width - 1)), 2 ** (8 * width - 1) - 1) if has_sign else (0, 256**width - 1)

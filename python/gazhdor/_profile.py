@@ -14,7 +14,7 @@ Kind = Union[str, int]
 _MOST_NAMES, _MOST_LETTERS = 1000, 100  # So many names are compared, and none that is longer.
 
 
-class Told(NamedTuple):
+class Info(NamedTuple):
     """What the profile says of a field: an item `raw` stands for `raw / scale - offset` units."""
 
     name: str
@@ -28,13 +28,13 @@ class Known(NamedTuple):
 
     number: int
     fields: Dict[str, int]
-    told: Dict[int, Told]
+    told: Dict[int, Info]
 
 
 # Field 253 has a name in all messages, and field 254 in those of the profile; they aren't in the table.
-_TOLD_OF_ALL = {253: Told("timestamp", "s", 1, 0)}
+_INFO_OF_ALL = {253: Info("timestamp", "s", 1, 0)}
 _OF_ALL = {"timestamp": 253}
-_INDEX = {254: Told("message_index", "", 1, 0)}
+_INDEX = {254: Info("message_index", "", 1, 0)}
 
 
 @functools.lru_cache(None)
@@ -44,9 +44,9 @@ def profile() -> Dict[str, Known]:
     lines = (packed("profile.tsv") or b"").decode().splitlines()
     for line in lines[1:]:
         number, name, field, field_name, unit, scale, offset = line.split("\t")
-        known = found.setdefault(name, Known(int(number), {**_OF_ALL, "message_index": 254}, {**_TOLD_OF_ALL, **_INDEX}))
+        known = found.setdefault(name, Known(int(number), {**_OF_ALL, "message_index": 254}, {**_INFO_OF_ALL, **_INDEX}))
         known.fields[field_name] = int(field)
-        known.told[int(field)] = Told(field_name, unit, int(scale), int(offset))
+        known.told[int(field)] = Info(field_name, unit, int(scale), int(offset))
     return found
 
 
@@ -66,10 +66,10 @@ def name_of(number: int) -> Optional[str]:
     return next((name for name, known in profile().items() if known.number == number), None)
 
 
-def told_of(message: int, field: int) -> Optional[Told]:
+def info_of(message: int, field: int) -> Optional[Info]:
     """What the profile says of a field, or None."""
     known = _by_number().get(message)
-    return (known.told if known else _TOLD_OF_ALL).get(field)
+    return (known.told if known else _INFO_OF_ALL).get(field)
 
 
 class UnknownName(KeyError):
