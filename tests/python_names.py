@@ -7,6 +7,8 @@ import html.parser
 import math
 import os
 import pickle
+import shutil
+import subprocess
 import sys
 import tempfile
 import unittest
@@ -316,6 +318,55 @@ class Extra(unittest.TestCase):
             said = "".join(line[2:] for line in file if line.startswith("#"))
         self.assertRegex(said, "no part of what is proved")
         self.assertRegex(said, r"release \d+\.\d+ of\s+the FIT SDK")
+
+
+TYPED = """
+from typing import Any, Dict, List, Mapping, Optional, Tuple, Union
+import datetime
+import gazhdor
+
+def see(source: gazhdor.Source) -> None:
+    for message in gazhdor.messages(source, only=["lap", 20], names=gazhdor.EXTRA | gazhdor.Names({(20, 3): "pulse"})):
+        values: Tuple[Union[int, float, str, bytes], ...] = message.values("time")
+        mapping: Mapping[gazhdor.Key, Any] = message
+        for name, value in message.items():
+            print(name, value, list(message.values()))
+        place: Optional[gazhdor.Position] = message.position
+        if place is not None:
+            print(place.latitude + 1)
+        print(gazhdor.degrees(5) + 1, gazhdor.when(None) is None, mapping, values)
+        times: Dict[gazhdor.Key, Union[datetime.datetime, str, None]] = message.times
+        print(times, message.native("power"), message.field("x").native)
+    data: bytes = gazhdor.mend(source)
+    text: str = gazhdor.gpx(data, partial=True)
+    answer = gazhdor.check(data)
+    explanation: Optional[str] = answer.explanation
+    try:
+        gazhdor.from_csv(text)
+    except gazhdor.TextRefused as error:
+        print(error.advice, explanation)
+    except gazhdor.UnknownName as unknown:
+        print(unknown.name, unknown.nearest)
+    stream = gazhdor.Stream("messages", names={140: "x"})
+    found: List[gazhdor.Message] = stream.feed(b"")
+    print(found)
+"""
+WRONG = ("gazhdor.degrees('5')", "gazhdor.Names({20: 5}) | 5", "gazhdor.mend(5)", "gazhdor.Stream('show', names={})", "next(gazhdor.messages('a')).values(1.5)")
+
+
+class Types(unittest.TestCase):
+    def test_mypy(self):
+        """A program that uses all of this, in the strict way; and each wrong use is seen."""
+        if not shutil.which("mypy"):
+            print("tests/python: there is no mypy, so the types aren't checked", file=sys.stderr)
+            self.skipTest("mypy")
+        with tempfile.TemporaryDirectory() as work:
+            program, lines = os.path.join(work, "typed.py"), len(TYPED.splitlines())
+            with open(program, "w", encoding="utf-8") as file:
+                file.write(TYPED + "".join(f"{wrong}\n" for wrong in WRONG))
+            done = subprocess.run(["mypy", "--strict", "--cache-dir", os.path.join(work, "types"), program], stdout=subprocess.PIPE, env=dict(os.environ, MYPYPATH="python"))
+            said = [line for line in done.stdout.decode().splitlines() if ": error:" in line]
+            self.assertEqual([line.split(":")[:2] for line in said], [[program, str(lines + number)] for number in range(1, len(WRONG) + 1)])
 
 
 if __name__ == "__main__":
