@@ -1,5 +1,5 @@
 """Mends what was broken off: all good records of it, and an end."""
-import itertools
+import functools
 import struct
 from typing import Dict, Iterable, List, Optional, Tuple, Union
 
@@ -12,22 +12,33 @@ _FRONT, _FIELDS, _ITEMS = struct.Struct("<IBBB").unpack_from, struct.Struct("<HH
 _MOST = 2**32 - 1  # the size of the largest data section
 
 
+@functools.lru_cache(None)
 def _sums() -> List[int]:
-    sums = list(range(256))
-    for _ in range(8):
+    """What each two bytes make of a checksum of 0."""
+    sums = list(range(65536))
+    for _ in range(16):
         sums = [number >> 1 ^ (0xA001 if number & 1 else 0) for number in sums]
     return sums
 
 
-_SUMS = _sums()
-
-
 def checksum(*parts: Union[bytes, memoryview]) -> bytes:
     """The two bytes that the FIT protocol has after these."""
-    total = 0
-    for byte in itertools.chain(*parts):
-        total = total >> 8 ^ _SUMS[(total ^ byte) & 0xFF]
+    total, sums = 0, _sums()
+    for part in parts:
+        words = memoryview(part)[: len(part) // 2 * 2].cast("B").cast("H")
+        for word in words:
+            total = sums[total ^ word]
+        if len(part) % 2:
+            total = _after(total, part[-1])
     return struct.pack("<H", total)
+
+
+def _after(total: int, byte: int) -> int:
+    """The checksum after one byte more."""
+    total ^= byte
+    for _ in range(8):
+        total = total >> 1 ^ (0xA001 if total & 1 else 0)
+    return total
 
 
 class _Ends:
@@ -107,9 +118,12 @@ def _split(data: memoryview) -> Optional[Tuple[bytes, memoryview, memoryview]]:
     after = body[size + 2 :]
     if size and len(body) >= size + 2 and (not len(after) or after[8:12] == b".FIT"):
         return head, body[:size], after
-    body, end = (body[:-2], body[-2:]) if len(body) >= 2 else (body, body[:0])
-    is_whole = end in (checksum(head, body), checksum(_header(head, len(body)), body))
-    return head, body if is_whole else data[length:], data[:0]
+    if 2 <= len(body) and size <= len(body):
+        # The size was never filled in, or is wrong; there may be a checksum all the same.
+        records = body[:-2]
+        if body[-2:] in (checksum(head, records), checksum(_header(head, len(records)), records)):
+            body = records
+    return head, body, data[:0]
 
 
 def _mended(data: memoryview) -> Tuple[bytes, memoryview]:
