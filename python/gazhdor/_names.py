@@ -63,7 +63,7 @@ def _see_named(named: Named) -> Named:
     return named
 
 
-NamesLike = Union[None, "Names", str, "os.PathLike[str]", Mapping[Any, Any]]
+Told = Union[None, "Names", str, "os.PathLike[str]", Mapping[Any, Any]]
 
 
 class Names:
@@ -194,6 +194,6 @@ def _extra() -> Names:
 EXTRA: Names = _Packed("extra.tsv")
 
 
-def names_of(told: NamesLike) -> Optional[Names]:
+def names_of(told: Told) -> Optional[Names]:
     """What a caller gives as `names`."""
     return told if told is None or isinstance(told, Names) else Names(told)

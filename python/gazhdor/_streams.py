@@ -10,7 +10,7 @@ from ._answers import Answer
 from ._blocks import Blocks, Only, Walk
 from ._library import HAS_STREAMS, Opened, check, exact, library, memory_of
 from ._messages import Message, messages_of
-from ._names import NamesLike, names_of
+from ._names import Told, names_of
 from ._sources import Source, bytes_of, go_back, opened, pieces, place_of
 from .errors import FitError, StreamBroken, judge, judged
 
@@ -45,9 +45,9 @@ class Stream(Generic[Made]):
         @overload
         def __init__(self: "Stream[bytes]", kind: Literal["blocks"]) -> None: ...
         @overload
-        def __init__(self: "Stream[List[Message]]", kind: Literal["messages"], only: Only = None, names: NamesLike = None) -> None: ...
+        def __init__(self: "Stream[List[Message]]", kind: Literal["messages"], only: Only = None, names: Told = None) -> None: ...
 
-    def __init__(self, kind: str, only: Only = None, names: NamesLike = None) -> None:
+    def __init__(self, kind: str, only: Only = None, names: Told = None) -> None:
         if kind not in _KINDS:
             raise ValueError(f"a stream is one of {', '.join(_KINDS)}, and not {kind!r}")
         if (only is not None or names is not None) and kind != "messages":
@@ -158,7 +158,7 @@ def _forked() -> None:
 os.register_at_fork(after_in_child=_forked)
 
 
-def _maker(kind: str, only: Only, names: NamesLike) -> Callable[[bytes], Any]:
+def _maker(kind: str, only: Only, names: Told) -> Callable[[bytes], Any]:
     """What makes a kind's result of the bytes of the library."""
     if kind == "blocks":
         return bytes
@@ -208,7 +208,7 @@ def each(kind: str, source: Source, partial: bool, ahead: bool = True) -> Iterat
             judge(making.answer)
 
 
-def messages(source: Source, only: Only = None, partial: bool = False, names: NamesLike = None) -> Iterator[Message]:
+def messages(source: Source, only: Only = None, partial: bool = False, names: Told = None) -> Iterator[Message]:
     """Yields a Message for each data message; with `only`, a name or a number or several of these, for such messages alone, and makes
     nothing of the others. The source is read, piece by piece, as messages are asked for. With `partial` a fault is raised after the
     messages before it, else before the first message, as `Refused` or `Truncated`; of a file object that can't go back to where it was,

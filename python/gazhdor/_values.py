@@ -243,7 +243,7 @@ _TYPES = {0: {4: _DATE}, 18: {2: _DATE}, 19: {2: _DATE}, 34: {5: _LOCAL}}
 _POSITIONS = (("position_lat", "position_long"), ("start_position_lat", "start_position_long"))
 
 
-class Told(NamedTuple):
+class Beside(NamedTuple):
     """What is known of a definition but from its block: what the message is called, what is said of its fields, by their numbers, and
     the numbers of the fields that its developer fields stand for."""
 
@@ -251,20 +251,20 @@ class Told(NamedTuple):
     fields: Mapping[int, Named] = {}
     natives: Mapping[Developer, int] = {}
 
-    def of(self, keys: Set[Key]) -> "Told":
+    def of(self, keys: Set[Key]) -> "Beside":
         """What of it is about these fields."""
         natives = {key: native for key, native in self.natives.items() if key in keys}
         fields = {number: named for number, named in self.fields.items() if number in keys or number in natives.values()}
-        return Told(self.name, fields, natives)
+        return Beside(self.name, fields, natives)
 
 
-NOTHING = Told()
+NOTHING = Beside()
 
 
-def told(names: Optional[Names], message: int, natives: Mapping[Developer, int]) -> Told:
+def told(names: Optional[Names], message: int, natives: Mapping[Developer, int]) -> Beside:
     """What is known of the definitions of a message."""
     name, fields = (names.message(message), names.fields(message)) if names else (None, {})
-    return Told(name, fields, natives) if name or fields or natives else NOTHING
+    return Beside(name, fields, natives) if name or fields or natives else NOTHING
 
 
 def developers(data: bytes) -> List[Developer]:
@@ -288,7 +288,7 @@ class Definition:
 
     __slots__ = ("data", "number", "name", "is_counted", "entries", "by_key", "readers", "keys", "labels", "made", "_told")
 
-    def __init__(self, data: bytes, told: Told = NOTHING) -> None:
+    def __init__(self, data: bytes, told: Beside = NOTHING) -> None:
         self.data, self._told = data, told
         fields, developer, bits = struct.unpack_from("<HHH", data, 34)
         self.number: int = struct.unpack_from("<H", data, 32)[0]
