@@ -43,7 +43,8 @@ fn whole_numbers_are_scaled() {
 
 #[test]
 fn several_have_no_scale() {
-    let records = [define(0, 20, &[[6, 8, 0x88]], &[], false), data(0, &[&1.5_f32.to_le_bytes(), &2.25_f32.to_le_bytes()])];
+    let records =
+        [define(0, 20, &[[6, 8, 0x88]], &[], false), data(0, &[&1.5_f32.to_le_bytes(), &2.25_f32.to_le_bytes()])];
     let made = messages(&fit(&records)).unwrap();
     let message = made.iter().next().unwrap();
     let field = message.field("speed").unwrap();
