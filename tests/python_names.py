@@ -222,6 +222,8 @@ class Names(unittest.TestCase):
         self.assertEqual((m["phase"][1], m["third"]), (None, 7 / 3))
         self.assertAlmostEqual(m["phase"][0], 22.5, places=5)
         self.assertEqual(m.field("third").exact, decimal.Decimal(7) / 3)
+        # floats stand for themselves, as those do which the profile scales
+        self.assertEqual(one((200, FLOAT32, packed("<2f", 1.5, 2.25)), names={(20, 200): ("own", "m", 100, 5)})["own"], (1.5, 2.25))
 
     def test_messages(self):
         source = fit(define(0, 140, [(1, UINT8, UINT8)]), b"\0\5\0", define(1, 132, [(0, 1, UINT8)]), b"\1\7")

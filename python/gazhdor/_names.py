@@ -17,7 +17,7 @@ class Named(NamedTuple):
 
     name    its name
     unit    its unit
-    scale   an item `raw` stands for `raw / scale - offset` units
+    scale   a whole number `raw` stands for `raw / scale - offset` units; floats stand for themselves
     offset
     type    'date_time' where it is a time in seconds since 1989-12-31T00:00:00 UTC, 'local_date_time' where it is one by the clock of
             the place; else None

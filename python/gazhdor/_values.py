@@ -64,7 +64,8 @@ class Entry:
     def _rename(self, named: Named) -> None:
         self.name = self.name if named.name is None else named.name
         self.unit = self.unit if named.unit is None else named.unit or None
-        if named.scale is not None or named.offset is not None:
+        # Floats stand for themselves, as in the profile.
+        if self.kind <= SIGNED and (named.scale is not None or named.offset is not None):
             self.scale = whole(self.scale if named.scale is None else named.scale)
             self.offset = whole(self.offset if named.offset is None else named.offset)
             self.decimals = decimals_of(self.scale, self.offset)

@@ -153,7 +153,8 @@ impl<'a> Field<'a> {
 
     /// Scale and offset, by what is said of the field beside the profile, or else by the profile.
     fn measure(&self) -> (f64, f64) {
-        let (scale, offset) = self.named.map_or((None, None), |named| (named.scale, named.offset));
+        let named = self.named.filter(|_| self.entry[8] != FLOAT); // Floats stand for themselves.
+        let (scale, offset) = named.map_or((None, None), |named| (named.scale, named.offset));
         (scale.unwrap_or_else(|| self.scale().into()), offset.unwrap_or_else(|| self.offset().into()))
     }
 

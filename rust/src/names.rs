@@ -13,7 +13,7 @@ pub struct Named {
     pub name: Option<String>,
     /// Its unit.
     pub unit: Option<String>,
-    /// An item `n` stands for `n / scale - offset` units.
+    /// A whole number `n` stands for `n / scale - offset` units; floats stand for themselves.
     pub scale: Option<f64>,
     /// See `scale`.
     pub offset: Option<f64>,

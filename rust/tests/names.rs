@@ -75,6 +75,9 @@ fn own_names() {
         assert_eq!(message.numbered(200).unwrap().whole(), Value::Unsigned(500));
         assert!(named != message && named == message.named(&own));
     });
+    // floats stand for themselves
+    let float = record(&[(200, 4, 136, "field_200", "0x3FC00000", "")]);
+    with_first(&float, |message| assert_eq!(message.named(&own).value("left"), Some(1.5)));
     own.name_field(20, 200, Named { scale: Some(0.0), ..Named::default() });
     with_first(&sample(), |message| assert_eq!(message.named(&own).numbered(200).unwrap().whole(), Value::None));
 }
