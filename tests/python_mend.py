@@ -236,7 +236,7 @@ class Anonymise(unittest.TestCase):
             *before, define(0, 20, [(253, 4, UINT32), (0, 4, SINT32), (1, 4, SINT32), (3, 1, UINT8)], developer),
             b"\0" + packed("<I2iB", 10**9, lat, long, 120) + packed("<idf", lat, 47.3, 47.3) + b"47.3 N\0\0",
             define(1, 18, [(5, 1, 0), *((number, 4, SINT32) for number in range(29, 33)), (3, 4, UINT32), (9, 4, UINT32)]), b"\1\2" + 2 * place + packed("<2I", lat, 855846),
-            define(2, 65280, [(9, 8, SINT32), (10, 2, SINT16)], big=True), b"\2" + packed(">2ih", lat, long, -7),
+            define(2, 65280, [(9, 8, SINT32), (10, 2, SINT16), (11, 4, 5)], big=True), b"\2" + packed(">2ihi", lat, long, -7, lat),
         )
         source, into = (os.path.join(WORK, name) for name in ("places.fit", "none.fit"))
         with open(source, "wb") as output:
@@ -251,7 +251,7 @@ class Anonymise(unittest.TestCase):
             self.assertNotIn(hidden, data)
         self.assertEqual([(m.name, {key: value for key, value in m.items() if m.values(key)}) for m in gazhdor.messages(data) if m.number not in (206, 207)],
             [("record", {"timestamp": 10**9, "heart_rate": 120}), ("session", {"sport": 2, "total_distance": 8558.46}), (None, {10: -7})])
-        self.assertEqual(done.stdout.count("emptied: "), 12)
+        self.assertEqual(done.stdout.count("emptied: "), 13)
         self.assertIn("emptied: session field_29, 1 times\n", done.stdout)
         # it doesn't write over a file
         self.assertNotEqual(subprocess.run(words, stdout=subprocess.PIPE, stderr=subprocess.PIPE).returncode, 0)

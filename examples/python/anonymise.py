@@ -53,7 +53,8 @@ def rows_without_places(rows, counts):
             number, size, code = left.pop(0)
             told.setdefault(number, row[2])
             empty = emptied(size, code)
-            if row[2] != empty and (code == SINT32 or NAMED.search(row[1]) or row[3].lower() in MEASURED):
+            is_signed = code & 0x1F == SINT32 & 0x1F  # as some devices write it, without its highest bit
+            if row[2] != empty and (is_signed or NAMED.search(row[1]) or row[3].lower() in MEASURED):
                 counts[message, row[1]] += 1
                 row[2] = empty
             if not left and message == "field_description" and all(told.get(field, "").isdigit() for field in (0, 1, 2)):
