@@ -4,9 +4,11 @@ import copy
 import datetime
 import decimal
 import html.parser
+import json
 import math
 import os
 import pickle
+import random
 import shutil
 import subprocess
 import sys
@@ -14,6 +16,7 @@ import tempfile
 import unittest
 
 import gazhdor
+from gazhdor._json import line
 from python_fits import *
 
 RIDE = "examples/ride.fit"
@@ -320,6 +323,34 @@ class Extra(unittest.TestCase):
             said = "".join(line[2:] for line in file if line.startswith("#"))
         self.assertRegex(said, "no part of what is proved")
         self.assertRegex(said, r"release \d+\.\d+ of\s+the FIT SDK")
+
+
+class Random(unittest.TestCase):
+    """Files of random definitions and data, by random names."""
+
+    def see(self, m):
+        self.assertEqual((list(m), list(dict(m).values()), len(m)), (list(m.keys()), list(m.values()), len(list(m))))
+        self.assertEqual(set(json.loads(line(m))["fields"]), set(m.as_dict()))
+        self.assertIn("</table>", m._repr_html_())
+        for key, time in m.times.items():
+            self.assertTrue(time is None or isinstance(time, (datetime.datetime, str)), key)
+        for key, value in m.items():
+            self.assertEqual((m.values(key), m.field(key).value is None), (tuple(item for item in (value if isinstance(value, tuple) else (value,)) if item is not None), value is None))
+            self.assertEqual(m.field(key).exact is None, value is None)
+            if m.field(key).developer is None:
+                m.native(key)
+
+    def test_random(self):
+        r, count = random.Random(20260404), 0
+        for _ in range(60):
+            scales = 3, 7.5, 1000, -2, 1e-300
+            own = {(20, r.randrange(256)): (f"own{k}", "m", r.choice(scales), r.choice((0, 5, -1.5))) for k in range(9)}
+            for m in gazhdor.messages(any_file(r), names=r.choice((None, gazhdor.EXTRA, own, {31: "mine", (31, 0): "first"}))):
+                with self.subTest(repr(m)):
+                    if all(not isinstance(value, float) or value == value for field in m.fields for value in (field.value if isinstance(field.value, tuple) else (field.value,))):
+                        self.see(m)
+                        count += 1
+        self.assertGreater(count, 3000)
 
 
 TYPED = """

@@ -191,7 +191,7 @@ class Message(Mapping[Key, Any]):
         one; where none has, the value of the field itself, or None. It raises UnknownName where the profile has no such name."""
         number = self._definition.number_of(key)
         if number is None:
-            raise self._missing(key)
+            raise UnknownName("the profile has no field", key, fields_of(self.number)) if isinstance(key, str) else KeyError(key)
         for entry in self._definition.entries:
             if entry.native == number and entry.index is not None:
                 value = entry.read(self._block)
