@@ -34,7 +34,7 @@ class Mend(unittest.TestCase):
         """Of a ride that is cut anywhere all whole messages, in a good file; nothing of one without any record."""
         ends = [m.place for m in MESSAGES[1:]] + [len(BYTES) - 2]
         wanted, refused = [dict(m) for m in MESSAGES], 0
-        for cut in [*range(0, 400), *range(400, len(BYTES), 61), *range(len(BYTES) - 8, len(BYTES) + 1)]:
+        for cut in [*range(0, 260), *range(260, len(BYTES), 61), *range(len(BYTES) - 8, len(BYTES) + 1)]:
             try:
                 mended = gazhdor.mend(BYTES[:cut])
             except gazhdor.Truncated:

@@ -342,7 +342,7 @@ class Random(unittest.TestCase):
 
     def test_random(self):
         r, count = random.Random(20260404), 0
-        for _ in range(60):
+        for _ in range(25):
             scales = 3, 7.5, 1000, -2, 1e-300
             own = {(20, r.randrange(256)): (f"own{k}", "m", r.choice(scales), r.choice((0, 5, -1.5))) for k in range(9)}
             for m in gazhdor.messages(any_file(r), names=r.choice((None, gazhdor.EXTRA, own, {31: "mine", (31, 0): "first"}))):
@@ -350,7 +350,7 @@ class Random(unittest.TestCase):
                     if all(not isinstance(value, float) or value == value for field in m.fields for value in (field.value if isinstance(field.value, tuple) else (field.value,))):
                         self.see(m)
                         count += 1
-        self.assertGreater(count, 3000)
+        self.assertGreater(count, 1000)
 
 
 TYPED = """
