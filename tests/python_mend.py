@@ -5,6 +5,7 @@ import os
 import pickle
 import random
 import re
+import shutil
 import struct
 import subprocess
 import sys
@@ -45,6 +46,25 @@ class Mend(unittest.TestCase):
             self.assertEqual([dict(m) for m in gazhdor.messages(mended)], [m for m, end in zip(wanted, ends) if end <= cut])
             self.assertEqual(mended[14:-2], BYTES[14 : len(mended) - 2])
         self.assertEqual((refused, gazhdor.mend(BYTES)), (14 + 6 + 3 * 4, BYTES))
+
+    def test_recordings(self):
+        """Recordings of each kind, broken off at thirteen places: all messages that are whole."""
+        if not shutil.which("cc"):
+            print("tests/python: there is no cc, so no recordings are made", file=sys.stderr)
+            self.skipTest("there is no cc")
+        made = os.path.join(WORK, "recording")
+        subprocess.run(["cc", "-O1", "-o", made, "bench/recording.c"], check=True)
+        for kind in ("plain", "developer", "compressed", "turns", "definitions", "strings"):
+            subprocess.run([made, kind, "20k", made + ".fit"], check=True)
+            with open(made + ".fit", "rb") as file:
+                data = file.read()
+            whole = list(gazhdor.messages(data))
+            for cut in range(1, 14):
+                mended = gazhdor.mend(data[: len(data) * cut // 14])
+                found = list(gazhdor.messages(mended))
+                self.assertEqual([(m.place, dict(m)) for m in found], [(m.place, dict(m)) for m in whole[: len(found)]])
+                # the message after the next one begins after the cut
+                self.assertTrue(gazhdor.check(mended) and whole[len(found) + 1].place >= len(data) * cut // 14)
 
     def test_sizes(self):
         """A size that was never filled in, with a closing checksum and without, a wrong checksum, and bytes after the end."""

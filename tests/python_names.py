@@ -157,6 +157,14 @@ class Natives(unittest.TestCase):
         pieces = [m for byte in chain for m in stream.feed(bytes([byte]))] + stream.finish()
         self.assertEqual(pieces, list(gazhdor.messages(chain, only=20)))
 
+    def test_numbers_mean_another(self):
+        """What (index, number) stands for may change within a file; a name doesn't."""
+        records = DESCRIBE, describe(0, 0, UINT16, b"Power", b"W"), define(0, 20, [], [(0, 2, 0)]), b"\0\x2c\1"
+        records += describe(0, 0, UINT16, b"Vibration", b"mg"), define(0, 20, [], [(0, 2, 0)]), b"\0\x2c\1"
+        first, second = gazhdor.messages(fit(*records), only="record")
+        self.assertEqual((first[0, 0], second[0, 0], dict(first), dict(second)), (300, 300, {"Power": 300}, {"Vibration": 300}))
+        self.assertEqual((first.unit((0, 0)), second.unit((0, 0)), first.get("Vibration"), second.get("Power")), ("W", "mg", None, None))
+
     def test_many_descriptions(self):
         """The work grows with the file, and not with how many descriptions and definitions it has together."""
         before = [NATIVE, *(native(index, number, UINT8, b"", 20, 7) for index in range(200) for number in range(250))]
