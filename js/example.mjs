@@ -13,7 +13,7 @@ try {
     for (const lap of gazhdor.messages(bytes, { only: "lap" }))
         console.log(`lap  ${lap.time instanceof Date ? lap.time.toISOString() : lap.time}  ${lap.get("total_distance")} ${lap.unit("total_distance")}`)
     const { altitude, heart_rate } = gazhdor.columns(bytes, "record", ["altitude", "heart_rate"])
-    console.log(`${altitude.length} records, up to ${altitude.reduce((most, one) => (one > most ? one : most), NaN)} m`)
+    console.log(`${altitude.length} records, up to ${altitude.reduce((most, one) => (one > most ? one : most), -Infinity)} m`)
     if (heart_rate.some(rate => !Number.isNaN(rate))) console.log(`mean heart rate ${mean(heart_rate).toFixed(1)} bpm`)
 } catch (error) {
     if (!(error instanceof Refused || error instanceof Truncated)) throw error

@@ -1,5 +1,5 @@
-/* Products and quotients of 128 bits, which WebAssembly hasn't and clang calls by these names; elsewhere libgcc has them. Each is made of
- * 64-bit steps, so it doesn't call itself. Quotients by less than 2^32 take four divisions, others 128 shifts: the library divides by
+/* Products, quotients and shifts of 128 bits, which WebAssembly hasn't and clang calls by these names; elsewhere libgcc has them. Each is made
+ * of 64-bit steps, so it doesn't call itself. Quotients by less than 2^32 take four divisions, others 128 shifts: the library divides by
  * powers of ten and by small scales.
  *
  * Not proved. */
@@ -75,4 +75,37 @@ whole_signed __modti3(whole_signed a, whole_signed b)
     whole rest;
     divided(a < 0 ? -(whole)a : (whole)a, b < 0 ? -(whole)b : (whole)b, &rest);
     return (whole_signed)(a < 0 ? -rest : rest);
+}
+
+/* By 0 to 127 bits. */
+whole_signed __ashlti3(whole_signed a, int by)
+{
+    half high = (half)((whole)a >> 64), low = (half)a;
+    if (by == 0)
+        return a;
+    if (by >= 64)
+        return (whole_signed)joined(low << (by - 64), 0);
+    return (whole_signed)joined(high << by | low >> (64 - by), low << by);
+}
+
+static whole shifted(half fill, whole a, int by)
+{
+    half high = (half)(a >> 64), low = (half)a;
+    if (by == 0)
+        return a;
+    if (by == 64)
+        return joined(fill, high);
+    if (by > 64)
+        return joined(fill, high >> (by - 64) | fill << (128 - by));
+    return joined(high >> by | fill << (64 - by), low >> by | high << (64 - by));
+}
+
+whole __lshrti3(whole a, int by)
+{
+    return shifted(0, a, by);
+}
+
+whole_signed __ashrti3(whole_signed a, int by)
+{
+    return (whole_signed)shifted(a < 0 ? ~(half)0 : 0, (whole)a, by);
 }

@@ -25,6 +25,9 @@ static unsigned long grow(unsigned long more)
 #define __umodti3 own_umodti3
 #define __divti3 own_divti3
 #define __modti3 own_modti3
+#define __ashlti3 own_ashlti3
+#define __lshrti3 own_lshrti3
+#define __ashrti3 own_ashrti3
 #define whole wide
 #include "../js/wide.c"
 #undef whole
@@ -206,6 +209,9 @@ static void try_wide(int count)
         unsigned __int128 a = some_wide(), b = some_wide();
         __int128 x = (__int128)(some() % 2 ? -a : a), y = (__int128)(some() % 2 ? -b : b);
         must((unsigned __int128)own_multi3(x, y) == (unsigned __int128)x * (unsigned __int128)y, "a product is wrong");
+        int by = (int)(some() % 128);
+        must((unsigned __int128)own_ashlti3(x, by) == (unsigned __int128)x << by, "a shift to the left is wrong");
+        must(own_lshrti3(a, by) == a >> by && own_ashrti3(x, by) == x >> by, "a shift to the right is wrong");
         if (b == 0)
             continue;
         must(own_udivti3(a, b) == a / b && own_umodti3(a, b) == a % b, "a quotient is wrong");

@@ -58,7 +58,7 @@ async function seeGood() {
     for (const chart of ["#altitude", "#speed", "#track"]) assert.ok(await page.value(`document.querySelector('${chart} .drawn').getAttribute('d').length > 500`), chart)
     assert.match(await page.text("#altitude output"), /^406 to 425 m$/)
     assert.equal(await page.value("document.querySelectorAll('#tables tbody tr').length"), 1)
-    assert.match(await page.text("#counts"), /155 record/)
+    assert.match(await page.text("#counts"), /144 record/)
     assert.ok(await page.value("document.querySelector('#mended').hidden"))
     assert.deepEqual(await saved(page, "table", "ride.table.csv"), Buffer.from(gazhdor.tableText(RIDE)))
     assert.deepEqual(await saved(page, "rows", "ride.csv"), Buffer.from(gazhdor.toCsv(RIDE)))

@@ -267,12 +267,12 @@ await holds("what may be given as bytes", () => {
 })
 
 await holds("columns that would fill the memory", () => {
-    const fields = Array.from({ length: 250 }, (_, k) => `fdef,${k},0,2,,,\n`).join("")
-    const rows = Array.from({ length: 250 }, (_, k) => `field,field_${k},,,,,\n`).join("")
-    const one = gazhdor.fromCsv(`row,a,b,c,d,e,f\nfile,12,32,0,none,,\ndef,0,0,little,1000,250,\n${fields}data,0,,message_1000,,,\n${rows}end,,,,,,\n`)
-    const many = new Uint8Array(one.length * 400000)
-    for (let k = 0; k < 400000; k++) many.set(one, k * one.length)
-    assert.match(thrown(TooManyCells, () => gazhdor.columns(many, 1000)).message, /250 columns|251 columns/)
+    // A header, a definition of 250 fields of no bytes, and messages of one byte, which the end cuts off.
+    const fields = Array.from({ length: 250 }, (_, k) => [k, 0, 2]).flat()
+    const front = [12, 32, 0, 0, 0, 0, 0, 1, 0x2e, 0x46, 0x49, 0x54, 0x40, 0, 0, 0xe8, 3, 250, ...fields], many = new Uint8Array(front.length + 300000)
+    many.set(front)
+    assert.equal(gazhdor.columns(many.subarray(0, 1000), 1000, undefined, { partial: true }).field_7.length, 1000 - front.length)
+    assert.match(thrown(TooManyCells, () => gazhdor.columns(many, 1000, undefined, { partial: true })).message, /^251 columns of \d+ messages/)
     assert.ok(TooManyCells !== OutOfMemory)
 })
 

@@ -30,7 +30,7 @@ function rounds(low, high, most) {
 }
 
 export function duration(seconds) {
-    if (!Number.isFinite(seconds)) return ""
+    if (!(seconds >= 0 && seconds < 1e9)) return ""
     const whole = Math.round(seconds), two = one => String(one).padStart(2, "0")
     return `${Math.floor(whole / 3600)}:${two(Math.floor(whole / 60) % 60)}:${two(whole % 60)}`
 }

@@ -17,8 +17,10 @@ const MOST_ROWS = 1000
 const isThere = column => column.some(one => !Number.isNaN(one))
 const number = value => (typeof value === "number" && Number.isFinite(value) ? value : null)
 
-/* A column of numbers; of a field that no chart can have, none. */
-const numeric = (column, length) => (column instanceof Float64Array ? column : new Float64Array(length).fill(NaN))
+/* A column of numbers that a chart can have; of a field of another kind, none. */
+function numeric(column, length) {
+    return column instanceof Float64Array ? column.map(one => (Math.abs(one) < 1e14 ? one : NaN)) : new Float64Array(length).fill(NaN)
+}
 
 /* The first of several columns that has a value, for each message. */
 function merged(columns) {

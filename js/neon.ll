@@ -1,0 +1,109 @@
+
+; What the kit calls of aarch64's vectors, of vectors that any processor has. The sums of neighbours, of the first and then of the second:
+define internal <16 x i8> @neon.addp.v16i8(<16 x i8> %first, <16 x i8> %second) alwaysinline {
+  %even = shufflevector <16 x i8> %first, <16 x i8> %second, <16 x i32> <i32 0, i32 2, i32 4, i32 6, i32 8, i32 10, i32 12, i32 14, i32 16, i32 18, i32 20, i32 22, i32 24, i32 26, i32 28, i32 30>
+  %odd = shufflevector <16 x i8> %first, <16 x i8> %second, <16 x i32> <i32 1, i32 3, i32 5, i32 7, i32 9, i32 11, i32 13, i32 15, i32 17, i32 19, i32 21, i32 23, i32 25, i32 27, i32 29, i32 31>
+  %sums = add <16 x i8> %even, %odd
+  ret <16 x i8> %sums
+}
+
+; The bytes of a table at these places, and 0 for places from 16 on:
+define internal <16 x i8> @neon.tbl1.v16i8(<16 x i8> %table, <16 x i8> %places) alwaysinline {
+  %place0 = extractelement <16 x i8> %places, i32 0
+  %inside0 = icmp ult i8 %place0, 16
+  %at0 = and i8 %place0, 15
+  %there0 = extractelement <16 x i8> %table, i8 %at0
+  %byte0 = select i1 %inside0, i8 %there0, i8 0
+  %found0 = insertelement <16 x i8> zeroinitializer, i8 %byte0, i32 0
+  %place1 = extractelement <16 x i8> %places, i32 1
+  %inside1 = icmp ult i8 %place1, 16
+  %at1 = and i8 %place1, 15
+  %there1 = extractelement <16 x i8> %table, i8 %at1
+  %byte1 = select i1 %inside1, i8 %there1, i8 0
+  %found1 = insertelement <16 x i8> %found0, i8 %byte1, i32 1
+  %place2 = extractelement <16 x i8> %places, i32 2
+  %inside2 = icmp ult i8 %place2, 16
+  %at2 = and i8 %place2, 15
+  %there2 = extractelement <16 x i8> %table, i8 %at2
+  %byte2 = select i1 %inside2, i8 %there2, i8 0
+  %found2 = insertelement <16 x i8> %found1, i8 %byte2, i32 2
+  %place3 = extractelement <16 x i8> %places, i32 3
+  %inside3 = icmp ult i8 %place3, 16
+  %at3 = and i8 %place3, 15
+  %there3 = extractelement <16 x i8> %table, i8 %at3
+  %byte3 = select i1 %inside3, i8 %there3, i8 0
+  %found3 = insertelement <16 x i8> %found2, i8 %byte3, i32 3
+  %place4 = extractelement <16 x i8> %places, i32 4
+  %inside4 = icmp ult i8 %place4, 16
+  %at4 = and i8 %place4, 15
+  %there4 = extractelement <16 x i8> %table, i8 %at4
+  %byte4 = select i1 %inside4, i8 %there4, i8 0
+  %found4 = insertelement <16 x i8> %found3, i8 %byte4, i32 4
+  %place5 = extractelement <16 x i8> %places, i32 5
+  %inside5 = icmp ult i8 %place5, 16
+  %at5 = and i8 %place5, 15
+  %there5 = extractelement <16 x i8> %table, i8 %at5
+  %byte5 = select i1 %inside5, i8 %there5, i8 0
+  %found5 = insertelement <16 x i8> %found4, i8 %byte5, i32 5
+  %place6 = extractelement <16 x i8> %places, i32 6
+  %inside6 = icmp ult i8 %place6, 16
+  %at6 = and i8 %place6, 15
+  %there6 = extractelement <16 x i8> %table, i8 %at6
+  %byte6 = select i1 %inside6, i8 %there6, i8 0
+  %found6 = insertelement <16 x i8> %found5, i8 %byte6, i32 6
+  %place7 = extractelement <16 x i8> %places, i32 7
+  %inside7 = icmp ult i8 %place7, 16
+  %at7 = and i8 %place7, 15
+  %there7 = extractelement <16 x i8> %table, i8 %at7
+  %byte7 = select i1 %inside7, i8 %there7, i8 0
+  %found7 = insertelement <16 x i8> %found6, i8 %byte7, i32 7
+  %place8 = extractelement <16 x i8> %places, i32 8
+  %inside8 = icmp ult i8 %place8, 16
+  %at8 = and i8 %place8, 15
+  %there8 = extractelement <16 x i8> %table, i8 %at8
+  %byte8 = select i1 %inside8, i8 %there8, i8 0
+  %found8 = insertelement <16 x i8> %found7, i8 %byte8, i32 8
+  %place9 = extractelement <16 x i8> %places, i32 9
+  %inside9 = icmp ult i8 %place9, 16
+  %at9 = and i8 %place9, 15
+  %there9 = extractelement <16 x i8> %table, i8 %at9
+  %byte9 = select i1 %inside9, i8 %there9, i8 0
+  %found9 = insertelement <16 x i8> %found8, i8 %byte9, i32 9
+  %place10 = extractelement <16 x i8> %places, i32 10
+  %inside10 = icmp ult i8 %place10, 16
+  %at10 = and i8 %place10, 15
+  %there10 = extractelement <16 x i8> %table, i8 %at10
+  %byte10 = select i1 %inside10, i8 %there10, i8 0
+  %found10 = insertelement <16 x i8> %found9, i8 %byte10, i32 10
+  %place11 = extractelement <16 x i8> %places, i32 11
+  %inside11 = icmp ult i8 %place11, 16
+  %at11 = and i8 %place11, 15
+  %there11 = extractelement <16 x i8> %table, i8 %at11
+  %byte11 = select i1 %inside11, i8 %there11, i8 0
+  %found11 = insertelement <16 x i8> %found10, i8 %byte11, i32 11
+  %place12 = extractelement <16 x i8> %places, i32 12
+  %inside12 = icmp ult i8 %place12, 16
+  %at12 = and i8 %place12, 15
+  %there12 = extractelement <16 x i8> %table, i8 %at12
+  %byte12 = select i1 %inside12, i8 %there12, i8 0
+  %found12 = insertelement <16 x i8> %found11, i8 %byte12, i32 12
+  %place13 = extractelement <16 x i8> %places, i32 13
+  %inside13 = icmp ult i8 %place13, 16
+  %at13 = and i8 %place13, 15
+  %there13 = extractelement <16 x i8> %table, i8 %at13
+  %byte13 = select i1 %inside13, i8 %there13, i8 0
+  %found13 = insertelement <16 x i8> %found12, i8 %byte13, i32 13
+  %place14 = extractelement <16 x i8> %places, i32 14
+  %inside14 = icmp ult i8 %place14, 16
+  %at14 = and i8 %place14, 15
+  %there14 = extractelement <16 x i8> %table, i8 %at14
+  %byte14 = select i1 %inside14, i8 %there14, i8 0
+  %found14 = insertelement <16 x i8> %found13, i8 %byte14, i32 14
+  %place15 = extractelement <16 x i8> %places, i32 15
+  %inside15 = icmp ult i8 %place15, 16
+  %at15 = and i8 %place15, 15
+  %there15 = extractelement <16 x i8> %table, i8 %at15
+  %byte15 = select i1 %inside15, i8 %there15, i8 0
+  %found15 = insertelement <16 x i8> %found14, i8 %byte15, i32 15
+  ret <16 x i8> %found15
+}
