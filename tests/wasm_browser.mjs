@@ -93,7 +93,7 @@ export class Page {
     async until(expression, seconds = 60) {
         const end = Date.now() + 1000 * seconds
         while (!await this.value(expression).catch(() => false)) {
-            if (Date.now() > end) throw new Error(`not within ${seconds} seconds: ${expression}; ${this.faults}`)
+            if (Date.now() > end || this.faults.length) throw new Error(`not within ${seconds} seconds: ${expression}; ${this.faults}`)
             await new Promise(done => setTimeout(done, 20))
         }
     }

@@ -56,7 +56,7 @@ async function seeGood() {
     assert.match(await page.text("#summary"), /8\.56 km/)
     assert.equal(await page.value("document.querySelectorAll('#drawn .plot').length"), 3)
     for (const chart of ["#altitude", "#speed", "#track"]) assert.ok(await page.value(`document.querySelector('${chart} .drawn').getAttribute('d').length > 500`), chart)
-    assert.match(await page.text("#altitude output"), /^406 to 425 m$/)
+    assert.match(await page.text("#altitude output"), /^391 to 425 m$/)
     assert.equal(await page.value("document.querySelectorAll('#tables tbody tr').length"), 1)
     assert.match(await page.text("#counts"), /144 record/)
     assert.ok(await page.value("document.querySelector('#mended').hidden"))
@@ -126,7 +126,8 @@ async function seePhone() {
     const page = await Page.open(browser, URL_OF_PAGE, { width: 360, height: 780, scale: 2 })
     for (const [name, bytes] of [["ride.fit", RIDE], ["cut.fit", RIDE.subarray(0, 2000)], [`${"long".repeat(60)}.fit`, hostile()]]) {
         await page.give(laid(name, bytes))
-        assert.ok(await page.value("document.documentElement.scrollWidth <= 360 && document.body.scrollWidth <= 360"), name)
+        assert.equal(await page.value("[...document.querySelectorAll('main *')].filter(one => one.closest('.wide, svg') === null && one.getBoundingClientRect().right > 360).map(one => one.outerHTML.slice(0, 200)).join()"), "", name)
+        assert.ok(await page.value("document.documentElement.scrollWidth <= 360"), name)
     }
     seeQuiet(page)
 }

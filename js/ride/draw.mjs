@@ -93,11 +93,11 @@ function timeLines(svg, xs, width, height) {
     }
 }
 
+/* Lines at round values; their texts, which stand above what is drawn, are returned. */
 function valueLines(svg, y, { low, high }, width) {
-    for (const one of low < high ? rounds(low, high, 3) : [low]) {
-        svg.append(made("line", { class: "grid", x1: 0, x2: width, y1: y(one), y2: y(one) }))
-        svg.append(made("text", { x: 2, y: y(one) - 3 }, String(one)))
-    }
+    const values = low < high ? rounds(low, high, 3) : [low]
+    for (const one of values) svg.append(made("line", { class: "grid", x1: 0, x2: width, y1: y(one), y2: y(one) }))
+    return values.map(one => made("text", { x: 2, y: y(one) - 3 }, String(one)))
 }
 
 const pathOf = part => part.map(({ x, y }, k) => `${k ? "L" : "M"}${x.toFixed(1)} ${y.toFixed(1)}`).join("")
@@ -109,7 +109,7 @@ function chart(place, { name, title, unit, column, digits, filled }, xs, last) {
     const y = one => height - foot - PAD - (one - span.low) / (span.high - span.low || 1) * (height - foot - 2 * PAD)
     svg.setAttribute("viewBox", `0 0 ${width} ${height}`)
     svg.replaceChildren()
-    valueLines(svg, y, span, width)
+    const texts = valueLines(svg, y, span, width)
     if (last) timeLines(svg, xs, width, height)
     for (const part of thinned(xs, column)) {
         const line = part.map(({ x, y: one }) => ({ x, y: y(one) }))
@@ -118,7 +118,7 @@ function chart(place, { name, title, unit, column, digits, filled }, xs, last) {
     }
     const here = made("g", { visibility: "hidden" }), bar = made("line", { class: "here", y1: 0, y2: height - foot }), dot = made("circle", { r: 4, fill: `var(--${name})` })
     here.append(bar, dot)
-    svg.append(here)
+    svg.append(...texts, here)
     const text = one => `${one.toFixed(digits)} ${unit}`
     const whole = span.low === span.high ? text(span.low) : `${span.low.toFixed(digits)} to ${text(span.high)}`
     output.textContent = whole

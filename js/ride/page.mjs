@@ -139,6 +139,7 @@ function charts({ points }) {
     column.append(...places.charts)
     $("drawn").replaceChildren(...(isTracked ? [places.track] : []), ...(all.length ? [column] : []))
     $("drawn").classList.toggle("tracked", isTracked && all.length > 0)
+    $("drawn").style.setProperty("--plots", all.length)
     redraw = () => draw(places, all, points, seconds)
     redraw()
 }

@@ -75,8 +75,8 @@ let module, bytes, gazhdor
 
 const CALLS = {
     async module({ data }) {
-        module = await WebAssembly.compile(data)
-        gazhdor = undefined
+        module = WebAssembly.compile(data)
+        await module
     },
     ride({ data }) {
         bytes = new Uint8Array(data)
@@ -92,10 +92,10 @@ const CALLS = {
  * that a long one took is given back. */
 export async function answerTo(request) {
     try {
-        if (request.call === "ride") gazhdor = new Gazhdor(await WebAssembly.instantiate(module, {}))
+        if (request.call === "ride") gazhdor = new Gazhdor(await WebAssembly.instantiate(await module, {}))
         return { number: request.number, made: await CALLS[request.call](request) }
     } catch (error) {
-        if (error.name === "Trapped") gazhdor = new Gazhdor(await WebAssembly.instantiate(module, {}))
+        if (error.name === "Trapped") gazhdor = new Gazhdor(await WebAssembly.instantiate(await module, {}))
         return { number: request.number, error: error.explanation ?? error.message }
     }
 }
