@@ -95,9 +95,22 @@ pub(crate) struct RowJudge {
     pub chain: Chain,
     /// How many rows have come, the first line too.
     pub rows: u64,
+    /// How many rows of records are read alone before some are spelled anew again.
+    alone: u8,
     guesser: MessageReader,
     reader: RowReader,
     values: ValueReader,
+}
+
+/// How many rows of records are read alone after one in a spelling that isn't known: most are near it, and would be spelled anew in vain.
+const ALONE: u8 = 16;
+
+/// Whether a text may begin with a row of a record.
+fn begins_with_record(text: &[u8]) -> bool {
+    match text {
+        [b'd', ..] | [b'"', b'd', ..] => true,
+        _ => false,
+    }
 }
 
 impl RowJudge {
@@ -109,6 +122,7 @@ impl RowJudge {
         RowJudge {
             chain: Chain::new(alloc),
             rows: 1,
+            alone: 0,
             guesser: MessageReader::new(alloc),
             reader: RowReader::new(alloc),
             values: ValueReader::new(alloc),
@@ -264,13 +278,20 @@ impl RowJudge {
         ensures more { IfOk result (λ found. IfSome found (λ rest. self.old.rows < self.new.rows)) }
         ensures err { IfErr result (IsTextFault whole.now) }
     {
+        if self.alone > 0 {
+            self.alone -= 1;
+            return self.take_first(whole, left);
+        }
         let Ok(found) = window.fill(left) else {
             return Err(CsvFault::NoMemory);
         };
-        match found {
-            Some(after) => self.take_window(whole, window.bytes.as_slice(), after),
-            None => self.take_first(whole, left),
+        if let Some(after) = found {
+            return self.take_window(whole, window.bytes.as_slice(), after);
         }
+        if begins_with_record(left) {
+            self.alone = ALONE;
+        }
+        self.take_first(whole, left)
     }
 
     /// Judges the record with whose rows begins what is left of a whole text, or else its first row, or many that are spelled anew. Returns
