@@ -1,6 +1,6 @@
 -- The names of std, of the crates below and of this crate's specs that several proofs use: each proof takes them from here.
 pub use Rattle.std.proofs.Common.{◌≡◌, inr, inl, true, false, Bool, ℕ, List, [], Option, Some, None, Result, Ok, Err, ◌++◌, refl, sym, ap, ◌∙◌, subst}
-pub use Rattle.std.specs.Prelude.{flat_map, is_ok, reverse, ◌⊎◌, ◌≢◌, IfErr, IfOk}
+pub use Rattle.std.specs.Prelude.{flat_map, is_ok, reverse, ◌⊎◌, IfErr, IfOk}
 pub use Rattle.std.specs.declared.alloc.Global.{Global}
 pub use Rattle.fit_chain.specs.Events.{file_events}
 pub use Rattle.fit_csv.specs.FromText.{Answers, FromTextOf, IsTextOf}

@@ -8,7 +8,7 @@ use Rattle.fit_csv.specs.declared.fault.CsvFault.TheVariants as csv
 
 -- ---- a fault never has status 0
 
-pub fault_bad : (fault : Fault) → (fault_answer fault).status ≡ 0 → ⊥
+fault_bad : (fault : Fault) → (fault_answer fault).status ≡ 0 → ⊥
 fault_bad (faults.Refused place reason) zero = absurd cc
 fault_bad (faults.Truncated place) zero = absurd cc
 fault_bad (faults.NoMemory used) zero = absurd cc
