@@ -42,7 +42,7 @@ MIXED = [fit(*records) for records in (
         define(3, 20, [(3, 1, UINT8), (5, 4, FLOAT32)], [(1, 4, 0)]), packed("<BBff", 3, 9, 0.5, -1.5), packed("<BBII", 3, 255, NONE4, NONE4),
     ),
 )]
-KEYS = [".file", ".place", ".local", ".seconds", ".speed", ".distance", ".total_cycles", 3, 2, "altitude", 0, 253, "power", 5, "Strain", (0, 1), "nothing", 250, (9, 9)]
+KEYS = [".file", ".place", ".local", ".seconds", ".speed", ".distance", ".total_cycles", 3, 2, "altitude", 0, 253, "power", 5, "Strain", (0, 1), "cadence", 250, (9, 9)]
 
 
 class Columns(unittest.TestCase):
@@ -54,10 +54,16 @@ class Columns(unittest.TestCase):
             return [message.time for message in messages]
         return [getattr(message, key[1:]) if isinstance(key, str) and key[0] == "." else message.get(key) for message in messages]
 
+    def keys(self, source):
+        """The keys but for names that the file hasn't, which are an error."""
+        has_strain = any("Strain" in message for message in gazhdor.messages(source, only=20))
+        return [key for key in (*KEYS, "timestamp", ".time") if key != "Strain" or has_strain]
+
     def test_lists(self):
         for source in self.sources:
-            messages, found = list(gazhdor.messages(source, only=20)), gazhdor.lists(source, "record", [*KEYS, "timestamp", ".time"])
-            self.assertEqual(list(found), [*KEYS, "timestamp", ".time"])
+            keys = self.keys(source)
+            messages, found = list(gazhdor.messages(source, only=20)), gazhdor.lists(source, "record", keys)
+            self.assertEqual(list(found), keys)
             for key, column in found.items():
                 self.assertEqual(repr(column), repr(self.wanted(messages, key)))
         self.assertEqual(gazhdor.lists(MIXED[0], 21, [253]), {253: [1000000050]})
@@ -106,7 +112,7 @@ class Columns(unittest.TestCase):
         numpy = numpy_or(self, "numpy")
         r = random.Random(20260103)
         for source in [*self.sources, *(b"".join(any_file(r) for _ in range(3)) for _ in range(20))]:
-            for keys in ([*KEYS, "timestamp", ".time"], None):
+            for keys in (self.keys(source), None):
                 found, lists = gazhdor.columns(source, "record", keys), gazhdor.lists(source, "record", keys)
                 self.assertEqual(list(found), list(lists))
                 for key, column in found.items():

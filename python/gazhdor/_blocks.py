@@ -1,6 +1,6 @@
 """Walks the blocks of events that the library makes (docs/BLOCKS.md): which messages there are, and of which definitions."""
 import struct
-from typing import Any, Callable, Dict, Iterable, Iterator, NamedTuple, Optional, Tuple, Union
+from typing import Any, Callable, Dict, Iterable, Iterator, Optional, Tuple, Union
 
 from ._names import Names
 from ._natives import DESCRIPTION, Natives
@@ -10,32 +10,23 @@ from ._values import Definition, told
 from .errors import StreamBroken
 
 Only = Union[None, str, int, Iterable[Kind]]
-Blocks = Any  # bytes, or what else has slices that are bytes
 
 HEADER, DEFINITION, MESSAGE = 1, 2, 3
 _MOST = 1 << 20  # So many bytes of definitions are kept, beside the current ones.
-_FRONT = struct.Struct("<IBBB").unpack_from
-_NUMBER, _WHICH = struct.Struct("<H").unpack_from, struct.Struct("<Q").unpack_from
+# Each block has so many bytes, but for that of the end of a file, which says nothing here.
+_FRONT, _LEAST = struct.Struct("<IBBB17xQ").unpack_from, 32
+_NUMBER = struct.Struct("<H").unpack_from
+_NOTHING = None, None
 
 
-class Run(NamedTuple):
-    """Messages of one definition that follow one another: where the first block begins, how many there are, and how long each is."""
-
-    definition: Definition
-    first: int
-    messages: int
-    length: int
-
-    def places(self) -> range:
-        return range(self.first, self.first + self.messages * self.length, self.length)
+# Messages of one definition that follow one another: where the first block begins, how many there are, and how long each is.
+Run = Tuple[Definition, int, int, int]
 
 
-def _count(blocks: Blocks, first: int, length: int, local: int) -> int:
+def _count(blocks: bytes, first: int, length: int, local: int) -> int:
     """How many messages of one local message type stand one after another from a place on. No definition is between them, so all are
     of the same one, and each begins where the one before ends. It looks at one more, at two more, at four more and so on."""
     count = piece = 1
-    if blocks[first + length + 4 : first + length + 7 : 2] != bytes([MESSAGE, local]):
-        return 1
     kind, local_type = bytes([MESSAGE]), bytes([local])
     while True:
         at = first + count * length
@@ -74,31 +65,35 @@ class Walk:
         self._known: Dict[Any, Optional[Definition]] = {}
         self._room = _MOST
 
-    def runs(self, blocks: Blocks) -> Iterator[Run]:
+    def runs(self, blocks: bytes) -> Iterator[Run]:
         """Yields the messages that are asked for, those that follow one another together. All have to be taken before the next part."""
         at, end = 0, len(blocks)
-        while at < end:
-            length, kind, first, second = _FRONT(blocks, at)
+        while at + _LEAST <= end:
+            length, kind, first, second, which = _FRONT(blocks, at)
             if kind == MESSAGE:
-                count = _count(blocks, at, length, second)
+                begin, count = at, 1
+                at += length
+                if at < end and blocks[at + 6] == second and blocks[at + 4] == MESSAGE:
+                    count = _count(blocks, begin, length, second)
+                    at = begin + count * length
+                definition, known = self._current.get(second, _NOTHING)
+                if known != which:
+                    raise StreamBroken("the block of a definition is lost")
                 if second in self._describing:
-                    for place in range(at, at + count * length, length):
+                    for place in range(begin, at, length):
                         self._natives.learn(self._describing[second], blocks[place : place + length])
-                definition, which = self._current.get(second, (None, None))
-                if definition or which is None:
-                    if _WHICH(blocks, at + 24)[0] != which:
-                        raise StreamBroken("the block of a definition is lost")
-                    yield Run(definition, at, count, length)
-                length *= count
-            elif kind == DEFINITION:
-                self._define(first, blocks[at : at + length])
+                if definition:
+                    yield definition, begin, count, length
+                continue
+            if kind == DEFINITION:
+                self._define(first, which, blocks[at : at + length])
             elif kind == HEADER:
                 self._natives, self._describing = Natives(), {}
             at += length
 
-    def _define(self, local: int, data: bytes) -> None:
+    def _define(self, local: int, which: int, data: bytes) -> None:
         number: int = _NUMBER(data, 32)[0]
-        self._current[local] = self._definition(number, data), _WHICH(data, 24)[0]
+        self._current[local] = self._definition(number, data), which
         self._describing.pop(local, None)
         if number == DESCRIPTION:
             self._describing[local] = Definition(data)

@@ -39,11 +39,7 @@ def _time(time: Optional[Time]) -> str:
 
 def _plain(value: Any) -> Any:
     """A value as JSON has it: bytes as in the CSV text, and null for what is no finite number."""
-    if isinstance(value, tuple):
-        return [_plain(item) for item in value]
-    if isinstance(value, bytes):
-        return "0x" + value.hex().upper()
-    return None if isinstance(value, float) and not math.isfinite(value) else value
+    return "0x" + value.hex().upper() if isinstance(value, bytes) else value
 
 
 def _value(value: Any) -> str:
@@ -53,6 +49,8 @@ def _value(value: Any) -> str:
         return repr(value)
     if type(value) is float:
         return repr(value) if math.isfinite(value) else "null"
+    if type(value) is tuple:
+        return f"[{','.join(map(_value, value))}]"
     return _text(_plain(value))
 
 

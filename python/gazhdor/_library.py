@@ -138,8 +138,12 @@ def _no_text() -> _Text:
     return _Text(ctypes.addressof(_nothing), 0)
 
 
-def _array_of(text: _Text) -> Any:
-    return (ctypes.c_char * text.length).from_address(text.bytes or 0)
+def _copied(text: _Text) -> bytes:
+    if text.length <= _MOST_AT_ONCE:
+        return ctypes.string_at(text.bytes or 0, text.length)
+    array: Any = (ctypes.c_char * text.length).from_address(text.bytes or 0)
+    made: bytes = array[:]
+    return made
 
 
 class _Owner:
@@ -148,23 +152,12 @@ class _Owner:
     __slots__ = ("__weakref__",)
 
 
-def memory_of(call: Any, data: bytes) -> Tuple[Answer, Any]:
-    """The answer of a call, and what it makes of some bytes: where the library has it, as an array of which slices are bytes. The
-    memory is freed when nothing uses the array any more, or where an exception comes before there is one."""
+def text_of(call: Any, data: bytes) -> Tuple[Answer, bytes]:
+    """The answer of a call, and what it makes of some bytes. The library's memory is freed also where an exception comes."""
     data, text, owner = exact(data), _no_text(), _Owner()
     weakref.finalize(owner, library.gazhdor_free, text).atexit = False
     answer: Answer = call(data, len(data), ctypes.byref(text))
-    if not text.length:
-        return answer, b""
-    memory = _array_of(text)
-    memory.owner = owner
-    return answer, memory
-
-
-def text_of(call: Any, data: bytes) -> Tuple[Answer, bytes]:
-    """The same as bytes."""
-    answer, memory = memory_of(call, data)
-    return answer, memory[:]
+    return answer, _copied(text)
 
 
 def _close(stream: _Stream, text: _Text, callers: List[int]) -> None:
@@ -196,7 +189,7 @@ class Opened:
         self._callers.clear()
         if not text.length:
             return b""
-        made: bytes = _array_of(text)[:] if text.length > _MOST_AT_ONCE else ctypes.string_at(text.bytes or 0, text.length)
+        made = _copied(text)
         # It is forgotten before it is freed, so that nothing frees it again.
         done, text.length = _Text(text.bytes, text.length), 0
         library.gazhdor_free(done)

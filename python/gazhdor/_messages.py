@@ -4,7 +4,7 @@ import html
 import struct
 from typing import Any, Dict, Iterator, Mapping, NamedTuple, Optional, Tuple, Union, ValuesView, overload
 
-from ._blocks import Blocks, Run
+from ._blocks import Run
 from ._profile import UnknownName, fields_of
 from ._values import Definition, Entry, Exact, Key, Number, Raw, Value, degrees, label, read_exact, read_raw
 
@@ -333,7 +333,7 @@ class Message(Mapping[Key, Any]):
         return Message, (self._block, self._definition)
 
 
-def messages_of(blocks: Blocks, runs: Iterator[Run]) -> Iterator[Message]:
+def messages_of(blocks: bytes, runs: Iterator[Run]) -> Iterator[Message]:
     """The messages of some blocks."""
     for definition, first, count, length in runs:
         for at in range(first, first + count * length, length):

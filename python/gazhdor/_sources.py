@@ -52,10 +52,12 @@ def pieces(file: Any, size: int = PIECE) -> Iterator[bytes]:
 
 @contextlib.contextmanager
 def opened(source: Source) -> Iterator[Any]:
-    """The file object of a path, which is closed in the end, or a file object as it is."""
+    """The file object of a path, which is closed in the end, one of bytes, or a file object as it is."""
     if isinstance(source, (str, os.PathLike)):
         with open(source, "rb", buffering=0) as file:
             yield file
+    elif isinstance(source, (bytes, bytearray, memoryview)):
+        yield io.BytesIO(exact(source))
     elif isinstance(source, io.TextIOBase):
         raise NotBinary("the file object is opened as text, which has no bytes: open it as 'rb'")
     elif hasattr(source, "read"):

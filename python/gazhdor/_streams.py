@@ -7,8 +7,8 @@ import weakref
 from typing import TYPE_CHECKING, Any, Callable, Generic, Iterator, List, Optional, TypeVar, Union, overload
 
 from ._answers import Answer
-from ._blocks import Blocks, Only, Walk
-from ._library import HAS_STREAMS, Opened, check, exact, library, memory_of
+from ._blocks import Only, Walk
+from ._library import HAS_STREAMS, Opened, check, exact, library, text_of
 from ._messages import Message, messages_of
 from ._names import Told, names_of
 from ._sources import Source, bytes_of, go_back, opened, pieces, place_of
@@ -186,11 +186,11 @@ def _found(file: Any) -> Answer:
     return checking.answer
 
 
-def each(kind: str, source: Source, partial: bool, ahead: bool = True) -> Iterator[Blocks]:
-    """What is made of a source, piece by piece; bytes are one piece. A fault is raised after what comes before it. Without `partial`,
-    and unless it needn't be known ahead, it is raised at once where the source can go back."""
-    if isinstance(source, (bytes, bytearray, memoryview)) or not HAS_STREAMS:
-        answer, made = memory_of(_WHOLE[kind], bytes_of(source))
+def each(kind: str, source: Source, partial: bool, ahead: bool = True) -> Iterator[bytes]:
+    """What is made of a source, piece by piece. A fault is raised after what comes before it. Without `partial`, and unless it needn't be
+    known ahead, it is raised at once where the source can go back."""
+    if not HAS_STREAMS:
+        answer, made = text_of(_WHOLE[kind], bytes_of(source))
         judged(answer, partial)
         yield made
         judge(answer)
@@ -220,6 +220,6 @@ def messages(source: Source, only: Only = None, partial: bool = False, names: To
 
 def rows(source: Source, partial: bool) -> Iterator[List[str]]:
     """The rows of the table, without the first line."""
-    lines = (line for text in each("table", source, partial) for line in text[:].decode().splitlines())
+    lines = (line for text in each("table", source, partial) for line in text.decode().splitlines())
     next(lines, None)
     return csv.reader(lines)

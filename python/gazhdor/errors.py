@@ -57,6 +57,18 @@ class StreamBroken(RuntimeError):
     the stream can't go on."""
 
 
+class TooManyCells(ValueError):
+    """Of all fields of such messages there would be very many cells, and nearly all of them empty: the fields have to be named. `columns` and
+    `rows` are how many there would be."""
+
+    def __init__(self, columns: int, rows: int) -> None:
+        super().__init__(f"{columns} columns of {rows} rows would be nearly empty: name the fields that are needed")
+        self.columns, self.rows = columns, rows
+
+    def __reduce__(self) -> "Tuple[Type[TooManyCells], Tuple[int, int]]":
+        return type(self), (self.columns, self.rows)
+
+
 class LibraryError(ImportError):
     """`import gazhdor` can't load the library. `path` is the file, where one was found."""
 

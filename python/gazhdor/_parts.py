@@ -1,0 +1,267 @@
+"""What columns are made of: the blocks of many messages together, those of one definition in one piece of memory."""
+import datetime
+from itertools import repeat
+from typing import Any, Dict, Iterable, Iterator, List, NamedTuple, Optional, Tuple
+
+from ._blocks import Walk
+from ._messages import _EPOCH, SYSTEM_TIMES, when
+from ._names import Names
+from ._profile import Kind, see_fields
+from ._sources import Source
+from ._streams import each
+from ._values import FLOAT, Definition, Entry, Key, as_value, degrees, whole_number
+from .errors import FitError, TooManyCells
+
+TIME = "timestamp"
+NO_TIME = 0xFFFFFFFF
+_BATCH = 1 << 18  # At least that many bytes of blocks are taken at once.
+_FEW_CELLS, _MOST_EMPTY = 1 << 22, 16
+_FEW_DEFINITIONS = 16
+
+# How the items of a field are told: as its value, in degrees, as a time in UTC, as a time by the clock of the place.
+VALUE, DEGREES, DATE, LOCAL = "value", "degrees", "date_time", "local_date_time"
+
+
+class Cell(NamedTuple):
+    """What a column has of each message of a definition: the field, and how its items are told."""
+
+    entry: Entry
+    form: str = VALUE
+
+
+# What a message tells of itself, by the names of its attributes: where it stands in each block, and in those that have counters.
+_SECONDS = whole_number(12, 4)
+_OWN = {".file": whole_number(8, 4), ".place": whole_number(16, 8), ".local": whole_number(6, 1), ".seconds": _SECONDS}
+_COUNTED = {".speed": whole_number(40, 8, 100), ".distance": whole_number(48, 8, 16)}
+_COUNTED.update({".total_cycles": whole_number(56, 8), ".accumulated_power": whole_number(64, 8)})
+_TIMES = {TIME: Cell(_SECONDS, DATE), ".time": Cell(_SECONDS, DATE)}
+_PLACES = {".latitude": 0, ".longitude": 1}
+_ATTRIBUTES = {*_OWN, *_COUNTED, *_PLACES, ".time"}
+
+
+def _cell(definition: Definition, key: Key, times: bool) -> Optional[Cell]:
+    """What a column takes of each message of a definition."""
+    entry: Optional[Entry] = None
+    if isinstance(key, str) and (key in _TIMES or key[:1] == "."):
+        if key in _TIMES:
+            return _TIMES[key]
+        if key in _PLACES:
+            position = definition.position
+            return Cell(position[_PLACES[key]], DEGREES) if position else None
+        entry = _OWN.get(key) or (_COUNTED.get(key) if definition.is_counted else None)
+    else:
+        entry = definition.by_key.get(key)
+    # A field of no size has no value.
+    return Cell(entry, entry.type or VALUE if times else VALUE) if entry and entry.count else None
+
+
+def _own_keys(definition: Definition) -> List[Key]:
+    """The keys of all fields that the messages of a definition have, but of the time."""
+    return [key for key, entry in definition.keys.items() if entry.key != 253]
+
+
+class Part:
+    """Some messages of one definition: their blocks, how many messages come before each run of them, and how many are in it."""
+
+    __slots__ = ("definition", "length", "blocks", "before", "counts", "view", "messages", "_where")
+
+    def __init__(self, definition: Definition, length: int) -> None:
+        self.definition, self.length = definition, length
+        self.blocks: List[bytes] = []
+        self.before: List[int] = []
+        self.counts: List[int] = []
+        self._where: Any = None
+
+    def join(self) -> None:
+        self.messages = sum(self.counts)
+        self.view = memoryview(self.blocks[0] if len(self.blocks) == 1 else b"".join(self.blocks))
+        self.blocks = []
+
+    def drop(self) -> None:
+        """Forgets the blocks, when all values are made of them."""
+        self.view = memoryview(b"")
+
+    @property
+    def is_together(self) -> bool:
+        return self.before[-1] + self.counts[-1] - self.before[0] == self.messages
+
+    @property
+    def rows(self) -> slice:
+        """The rows of its messages, where they are together."""
+        return slice(self.before[0], self.before[0] + self.messages)
+
+    def where(self, numpy: Any) -> Any:
+        """The rows of its messages, as numpy takes them."""
+        if self.is_together:
+            return self.rows
+        if self._where is None:
+            counts = numpy.array(self.counts)
+            self._where = numpy.repeat(numpy.array(self.before) - (numpy.cumsum(counts) - counts), counts) + numpy.arange(self.messages)
+        return self._where
+
+    def put(self, column: List[Any], values: List[Any]) -> None:
+        """Puts the values of its messages into a column."""
+        if self.is_together:
+            column[self.rows] = values
+        elif self.messages == len(self.before):
+            for row, value in zip(self.before, values):
+                column[row] = value
+        else:
+            at = 0
+            for row, count in zip(self.before, self.counts):
+                column[row : row + count] = values[at : at + count]
+                at += count
+
+    def items(self, at: int, code: str) -> List[Any]:
+        """The items at a place in each message."""
+        items = self.view.cast(code)
+        found: List[Any] = items[at // items.itemsize :: self.length // items.itemsize].tolist()
+        return found
+
+    @property
+    def has_times(self) -> bool:
+        return set(self.items(12, "I")) != {NO_TIME}
+
+    def values(self, cell: Cell) -> List[Any]:
+        """What a column has of its messages."""
+        entry = cell.entry
+        if entry.kind > FLOAT:
+            data, length = bytes(self.view), self.length
+            return [entry.read(data[at : at + length]) for at in range(0, len(data), length)]
+        found = [told(cell, *self._numbers(entry, entry.begins + k * entry.width)) for k in range(entry.count)]
+        return found[0] if entry.count == 1 else list(zip(*found))
+
+    def _numbers(self, entry: Entry, at: int) -> Tuple[List[Any], List[Any]]:
+        items = self.items(at, entry.item_code)
+        return items, self.items(at, entry.float_code) if entry.kind == FLOAT else items
+
+
+def told(cell: Cell, items: List[Any], numbers: List[Any]) -> List[Any]:
+    """The values of items, which are also given as numbers, as a message has them."""
+    entry, form = cell
+    if form in (DATE, LOCAL) and not entry.is_scaled:
+        return _times(items, entry.invalid, form == LOCAL)
+    if form == DEGREES:
+        numbers = list(map(degrees, numbers))
+    elif entry.is_scaled:
+        value, scale = as_value(entry), entry.scale
+        numbers = [number / scale for number in numbers] if entry.offset == 0 and scale != 1 else list(map(value, numbers))
+    if form in (DATE, LOCAL):
+        return [None if item == entry.invalid else _time(number, form == LOCAL) for item, number in zip(items, numbers)]
+    return [None if item == entry.invalid else number for item, number in zip(items, numbers)] if entry.invalid in items else numbers
+
+
+def _time(seconds: Any, is_local: bool) -> Any:
+    time = when(seconds)
+    return time.replace(tzinfo=None) if is_local and isinstance(time, datetime.datetime) else time
+
+
+def _times(seconds: List[int], invalid: int, is_local: bool) -> List[Any]:
+    if SYSTEM_TIMES <= min(seconds) and invalid not in seconds:
+        epoch = _EPOCH.replace(tzinfo=None) if is_local else _EPOCH
+        return list(map(epoch.__add__, map(datetime.timedelta, repeat(0), seconds)))
+    return [None if second == invalid else _time(second, is_local) for second in seconds]
+
+
+def _up_to_fault(parts: Iterator[bytes], partial: bool) -> Iterator[bytes]:
+    """A fault ends them, where that may be."""
+    try:
+        yield from parts
+    except FitError:
+        if not partial:
+            raise
+
+
+def _parts(source: Source, message: Kind, partial: bool, names: Optional[Names]) -> Iterator[Part]:
+    if not isinstance(message, (str, int)):
+        raise TypeError(f"a message is named by its name or its number, and not by {type(message).__name__}")
+    walk, taken, size, row = Walk(message, names), {}, 0, 0  # type: Walk, Dict[int, Part], int, int
+    for blocks in _up_to_fault(each("blocks", source, partial, ahead=False), partial):
+        for definition, first, messages, length in walk.runs(blocks):
+            part = taken.get(id(definition))
+            if part is None:
+                part = taken[id(definition)] = Part(definition, length)
+            part.blocks.append(blocks[first : first + messages * length])
+            part.before.append(row)
+            part.counts.append(messages)
+            row += messages
+            size += messages * length
+        if size >= _BATCH:
+            yield from taken.values()
+            taken, size = {}, 0
+    yield from taken.values()
+
+
+class Asked(NamedTuple):
+    """What a caller asks for: the fields, or None for all; whether fields that are times are told as such; names of the caller."""
+
+    message: Kind
+    fields: Optional[List[Key]]
+    times: bool
+    names: Optional[Names]
+
+
+Values = Any  # the list of a part, or an array
+Piece = Tuple[Part, Cell, Values]
+
+
+class Table:
+    """The columns that are asked for, in pieces: what `take` makes of each part of the messages for each cell."""
+
+    def __init__(self, asked: Asked, take: Any) -> None:
+        self._asked, self._take = asked, take
+        self.rows = self._filled = 0
+        self._found: Dict[Key, List[Piece]] = {}
+        self._keys: Dict[Key, None] = dict.fromkeys(asked.fields or [])
+        self._has_times = False
+        self._first: List[Definition] = []
+
+    def read(self, source: Source, partial: bool) -> None:
+        asked = self._asked
+        for part in _parts(source, asked.message, partial, asked.names):
+            part.join()
+            self._add(part)
+            part.drop()
+        if asked.fields is not None:
+            see_fields(asked.message, [key for key in self._keys if key not in self._found], self._first, _ATTRIBUTES, asked.names)
+            return
+        cells = len(self.keys) * self.rows
+        if cells > _FEW_CELLS and cells > _MOST_EMPTY * self._filled:
+            raise TooManyCells(len(self.keys), self.rows)
+
+    def _add(self, part: Part) -> None:
+        definition = part.definition
+        self.rows += part.messages
+        if len(self._first) < _FEW_DEFINITIONS:
+            self._first.append(definition)
+        keys: Iterable[Key] = self._keys
+        if self._asked.fields is None:
+            self._keys.update(dict.fromkeys(_own_keys(definition)))
+            self._has_times = self._has_times or 253 in definition.by_key or part.has_times
+            keys = [TIME, *definition.by_key]
+        made: Dict[Tuple[int, str], Values] = {}
+        for key in keys:
+            cell = _cell(definition, key, self._asked.times)
+            if cell is None or (key == TIME and self._asked.fields is None and cell.form != DATE):
+                continue
+            known = id(cell.entry), cell.form
+            if known not in made:
+                made[known] = self._take(part, cell)
+            self._found.setdefault(key, []).append((part, cell, made[known]))
+        self._filled += len(made) * part.messages
+
+    @property
+    def keys(self) -> List[Key]:
+        """The columns: those that are asked for, or the time, where there is one, and each field that one of the messages has."""
+        first: List[Key] = [TIME] if self._asked.fields is None and self._has_times else []
+        return first + list(self._keys)
+
+    def developer(self, key: Key) -> Optional[Key]:
+        """The numbers of the developer field that a column has a name of, or None."""
+        pieces = self._found.get(key, [])
+        entry = pieces[0][1].entry if pieces and isinstance(key, str) else None
+        return entry.key if entry and entry.index is not None else None
+
+    def pieces(self, key: Key) -> List[Piece]:
+        """What a column is put together of. It is forgotten here."""
+        return self._found.pop(key, [])
