@@ -85,7 +85,8 @@ class _Arrays:
     def _numbers(self, cell: Cell, items: Any) -> Any:
         """As float64, and NaN for none."""
         entry = cell.entry
-        numbers = self._floats(entry, items).astype("f8")
+        with self.numpy.errstate(invalid="ignore"):  # as of a float that is a signalling NaN
+            numbers = self._floats(entry, items).astype("f8")
         if cell.form == DEGREES:
             numbers *= 180 / 2**31
         elif entry.is_scaled and entry.kind == FLOAT:

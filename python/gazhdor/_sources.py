@@ -24,8 +24,12 @@ Source = Union[str, "os.PathLike[str]", bytes, bytearray, memoryview, Readable]
 _ALL, PIECE = 1 << 20, 1 << 16
 
 
+def _read(file: Any, count: int, size: int) -> Any:
+    """What a file object reads; what it raises is a ReadFailed. Bytes in memory raise nothing: what comes there is from elsewhere."""
+    return file.read(size) if type(file) is io.BytesIO else _wrapped(count, file.read, size)
+
+
 def _wrapped(count: int, call: Any, *given: Any) -> Any:
-    """What a call of a file object returns; what it raises is a ReadFailed."""
     try:
         return call(*given)
     except MemoryError:
@@ -38,7 +42,7 @@ def pieces(file: Any, size: int = PIECE) -> Iterator[bytes]:
     """The bytes of a file object from where it is to its end, as many at once as it gives, and at most that many."""
     count = 0
     while True:
-        piece = _wrapped(count, file.read, size)
+        piece = _read(file, count, size)
         if piece is None:
             raise ReadFailed("it has no bytes yet, and doesn't wait for them", count)
         if not isinstance(piece, (bytes, bytearray, memoryview)):
