@@ -236,6 +236,19 @@ class Names(unittest.TestCase):
         # floats stand for themselves, as those do which the profile scales
         self.assertEqual(one((200, FLOAT32, packed("<2f", 1.5, 2.25)), names={(20, 200): ("own", "m", 100, 5)})["own"], (1.5, 2.25))
 
+    def test_absent(self):
+        """A name of the caller is known where the message hasn't the field, too."""
+        for m in (one((3, UINT8, b"\x78"), names=gazhdor.EXTRA), pickle.loads(pickle.dumps(one((3, UINT8, b"\x78"), names=gazhdor.EXTRA)))):
+            self.assertEqual((m.values("left_pco"), m.native("vertical_ratio"), m.get("left_pco")), ((), None, None))
+            with self.assertRaises(KeyError) as caught:
+                m["left_pco"]
+            self.assertNotIsInstance(caught.exception, gazhdor.UnknownName)
+            with self.assertRaises(gazhdor.UnknownName) as caught:
+                m["vertical_ration"]
+            self.assertEqual(caught.exception.nearest, "vertical_ratio")
+        watts = one((7, UINT16, packed("<H", 200)), names={(20, 7): "watts"})
+        self.assertEqual((watts.native("power"), watts.native("watts"), watts.native(7)), (200, 200, 200))
+
     def test_messages(self):
         source = fit(define(0, 140, [(1, UINT8, UINT8)]), b"\0\5\0", define(1, 132, [(0, 1, UINT8)]), b"\1\7")
         names = {140: "physiology", (140, 1): "effect"}

@@ -143,11 +143,11 @@ class Message(Mapping[Key, Any]):
     def _missing(self, key: Key) -> KeyError:
         if not isinstance(key, str) or self._is_known(key):
             return KeyError(key)
-        others = [*self._definition.labels, *fields_of(self.number)]
+        others = [*self._definition.labels, *fields_of(self.number), *self._definition.names]
         return UnknownName(f"neither the profile nor this {self.name or f'message {self.number}'} has a field", key, others)
 
     def _is_known(self, key: Key) -> bool:
-        return not isinstance(key, str) or key in fields_of(self.number)
+        return not isinstance(key, str) or self._definition.number_of(key) is not None
 
     def __contains__(self, key: object) -> bool:
         return key in self._definition.readers
@@ -188,16 +188,17 @@ class Message(Mapping[Key, Any]):
 
     def native(self, key: Key) -> Value:
         """Returns the value of the developer field that stands for a field of the profile, such as "power" or 7: of the first that has
-        one; where none has, the value of the field itself, or None. It raises UnknownName where the profile has no such name."""
+        one; where none has, the value of the field itself, or None. It raises UnknownName where neither the profile nor the caller has
+        such a name."""
         number = self._definition.number_of(key)
         if number is None:
-            raise UnknownName("the profile has no field", key, fields_of(self.number)) if isinstance(key, str) else KeyError(key)
+            raise UnknownName("the profile has no field", key, [*fields_of(self.number), *self._definition.names]) if isinstance(key, str) else KeyError(key)
         for entry in self._definition.entries:
             if entry.native == number and entry.index is not None:
                 value = entry.read(self._block)
                 if value is not None:
                     return value
-        own: Value = self.get(key)
+        own: Value = self.get(number)
         return own
 
     @property

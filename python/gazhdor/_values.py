@@ -1,7 +1,7 @@
 """What the items of a field stand for, and the field as its definition has it: an entry of docs/BLOCKS.md."""
 import struct
 from decimal import Decimal
-from typing import Any, Callable, Dict, List, Mapping, NamedTuple, Optional, Set, Tuple, Union, overload
+from typing import Any, Callable, Dict, List, Mapping, NamedTuple, Optional, Tuple, Union, overload
 
 from ._names import RESERVED, Named, Names
 from ._profile import fields_of
@@ -252,12 +252,6 @@ class Beside(NamedTuple):
     fields: Mapping[int, Named] = {}
     natives: Mapping[Developer, int] = {}
 
-    def of(self, keys: Set[Key]) -> "Beside":
-        """What of it is about these fields."""
-        natives = {key: native for key, native in self.natives.items() if key in keys}
-        fields = {number: named for number, named in self.fields.items() if number in keys or number in natives.values()}
-        return Beside(self.name, fields, natives)
-
 
 NOTHING = Beside()
 
@@ -308,8 +302,6 @@ class Definition:
         self.labels = {label(key): entry for key, entry in self.keys.items()}
         # what is made of it when it is first needed
         self.made: Dict[str, Any] = {}
-        if told is not NOTHING:
-            self._told = told.of({entry.key for entry in self.entries})
 
     def _entries(self, count: int) -> Tuple[Entry, ...]:
         data, (_, fields, natives) = self.data, self._told
@@ -352,6 +344,11 @@ class Definition:
             return entry.number
         named = (number for number, named in self._told.fields.items() if named.name == key)
         return next(named, fields_of(self.number).get(key))
+
+    @property
+    def names(self) -> List[str]:
+        """The caller's names of fields of its messages, also of those that they don't have."""
+        return [named.name for named in self._told.fields.values() if named.name]
 
     def is_same(self, other: "Definition") -> bool:
         """Whether messages of both, where they have the same bytes, are the same."""
