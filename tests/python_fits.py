@@ -82,6 +82,22 @@ def any_file(r):
     return fit(*records)
 
 
+# The description of a developer field with the message (14) and the field (15) that it stands for.
+NATIVE = define(14, 206, [(0, 1, UINT8), (1, 1, UINT8), (2, 1, UINT8), (3, 12, STRING), (8, 6, STRING), (14, 2, UINT16), (15, 1, UINT8)])
+
+
+def native(index, number, code, name, message, field):
+    return bytes([14, index, number, code]) + name.ljust(12, b"\0") + b"watts\0" + packed("<HB", message, field)
+
+
+def one(*fields, number=20, developer=None, before=(), names=None):
+    """The last message of a file: fields are (number, base type, bytes), developer fields (number, index, bytes)."""
+    definition = define(0, number, [(n, len(data), code) for n, code, data in fields], developer and [(n, len(data), index) for n, index, data in developer])
+    data = b"".join(data for _, _, data in [*fields, *(developer or [])])
+    *_, message = gazhdor.messages(fit(*before, definition, b"\0" + data), names=names)
+    return message
+
+
 # ---- what the rows tell
 
 Cell = collections.namedtuple("Cell", "label unit number index code value exact raw")
