@@ -69,7 +69,7 @@ async function seeGood() {
 async function seeCut() {
     const page = await Page.open(browser, URL_OF_PAGE), cut = RIDE.subarray(0, 2000)
     await page.give(laid("cut.fit", cut))
-    assert.match(await page.text("#finding"), /^cut\.fit: truncated at byte 2000\n+The bytes end before the file does: .*What comes before that is shown/)
+    assert.match(await page.text("#finding"), /^cut\.fit: truncated at byte 2000\n+The bytes end at 2000, before the file does\. .*What comes before that is shown/)
     assert.deepEqual(await saved(page, "mended", "cut-mended.fit"), Buffer.from(gazhdor.mend(cut)))
     await page.give(join(folder, "cut-mended.fit"))
     assert.match(await page.text("#finding"), /a good FIT file/)

@@ -1,10 +1,11 @@
 /* What messages, columns and rows must be: the cells of the CSV text and of the table, which the proved library writes, and values worked out by
  * hand: node wasm_values.mjs FILE.fit.. */
 import assert from "node:assert/strict"
+import { existsSync, readFileSync } from "node:fs"
 import { basename } from "node:path"
-import { FitError, OutOfMemory, Refused, TextRefused, TooManyCells, Truncated } from "../js/src/answers.mjs"
+import { FitError, OutOfMemory, REASONS, Refused, TextRefused, TooManyCells, Truncated } from "../js/src/answers.mjs"
 import { degrees, open, when } from "../js/gazhdor.mjs"
-import { RIDE, bytesAt, done, holds, thrown } from "./wasm_tools.mjs"
+import { RIDE, bytesAt, done, holds, joined, thrown } from "./wasm_tools.mjs"
 
 const gazhdor = await open()
 const files = process.argv.slice(2).map(path => [basename(path), bytesAt(path)])
@@ -218,7 +219,8 @@ await holds("faults: place and reason, and what comes before", () => {
     wrong[2500] ^= 1
     const answer = gazhdor.check(wrong)
     assert.equal(`${answer}`, `refused at byte ${RIDE.length - 2}: FileSum`)
-    assert.ok(answer.explanation.length > 20 && gazhdor.check(RIDE).explanation === null && gazhdor.check(short).explanation.includes("cut"))
+    assert.equal(answer.explanation, `The byte at ${RIDE.length - 2} isn't that of the closing checksum (the protocol's CRC of the file).`)
+    assert.deepEqual([gazhdor.check(RIDE).explanation, gazhdor.check(short).explanation], [null, "The bytes end at 2000, before the file does."])
     const place = thrown(Truncated, () => gazhdor.tableText(short)).place
     assert.equal(place, 2000)
     for (const call of ["toCsv", "show", "messages", "table"]) assert.ok(thrown(Truncated, () => gazhdor[call](short)) instanceof FitError)
@@ -242,8 +244,24 @@ await holds("a mended file has all records before the fault", () => {
             assert.equal(gazhdor.tableText(mended), gazhdor.tableText(bytes.subarray(0, end), { partial: true }))
         }
     assert.deepEqual(gazhdor.mend(RIDE), RIDE)
+    // A recording whose device went out: the size was never filled in, and there is no checksum.
+    const open = RIDE.slice(0, -2)
+    open.fill(0, 4, 8)
+    open.fill(0, 12, 14)
+    assert.equal(gazhdor.tableText(gazhdor.mend(open)), gazhdor.tableText(RIDE))
+    assert.deepEqual(gazhdor.mend(open).subarray(14), RIDE.subarray(14))
+    const chain = joined([RIDE, RIDE.subarray(0, 2000), RIDE, Uint8Array.of(10)])
+    assert.equal(gazhdor.check(gazhdor.mend(joined([RIDE, RIDE.subarray(0, 2000)]))).files, 2)
+    assert.deepEqual(gazhdor.mend(joined([RIDE, Uint8Array.of(10)])), RIDE)
+    assert.ok(gazhdor.check(gazhdor.mend(chain)).files >= 2)
     assert.equal(thrown(Truncated, () => gazhdor.mend(RIDE.subarray(0, 9))).place, 9)
     assert.equal(thrown(Refused, () => gazhdor.mend(new TextEncoder().encode("<gpx></gpx>"))).reason, "Protocol")
+})
+
+await holds("reasons in words are those of the table", () => {
+    const lines = existsSync("profile/reasons.tsv") ? readFileSync("profile/reasons.tsv", "utf8").trimEnd().split("\n").slice(1) : []
+    for (const line of lines) assert.equal(REASONS[line.split("\t")[0]], line.split("\t")[1])
+    assert.equal(lines.length, Object.keys(REASONS).length)
 })
 
 await holds("what may be given as bytes", () => {

@@ -152,12 +152,24 @@ new ResizeObserver(() => {
 
 // ---- a file
 
+/* What a fault mostly comes from. */
+const ADVICE = {
+    HeaderSize: "No FIT file begins there; before that place there may be good ones.", Protocol: "This is most likely no FIT file.", Signature: "This is most likely no FIT file.",
+    HeaderSum: "Some bytes of the header have changed, or the recording was never closed.", FileSum: "Some bytes have changed, or the recording was never closed.",
+    Truncated: "The recording or its copy was cut.", Other: "Some bytes before that place have changed or are missing.",
+}
+
+function adviceOf({ place, reason, explanation }, isShown, took) {
+    const advice = reason === null ? (place > 0 ? ADVICE.Truncated : "") : ADVICE[reason] ?? ADVICE.Other
+    return [explanation, advice, isShown ? `What comes before that is shown (${took}).` : ""].filter(text => text).join(" ")
+}
+
 let name = "ride", began
 
 function found({ finding, size, counts }) {
     const took = `${size.toLocaleString()} bytes, read in ${Math.max(1, Math.round(performance.now() - began))} ms`
     if (finding.good) say("good", `${name}: a good FIT file${finding.files > 1 ? `, of ${finding.files} files in a row` : ""}`, took)
-    else say("bad", `${name}: ${finding.text}`, `${finding.explanation[0].toUpperCase()}${finding.explanation.slice(1)}. ${counts.length ? `What comes before that is shown (${took}).` : ""}`)
+    else say("bad", `${name}: ${finding.text}`, adviceOf(finding, counts.length > 0, took))
 }
 
 function show(ride) {

@@ -3,23 +3,25 @@
 const TEXTS = ["ok", "", "", "out of memory", "", "no file has such rows", "closed", "no such kind"]
 export const [GOOD, REFUSED, TRUNCATED, NO_MEMORY, TEXT, UNWRITABLE] = TEXTS.keys()
 
-const REASONS = [
-    "", "HeaderSize", "Protocol", "NoFit", "Signature", "HeaderSum", "ReservedBit", "UndefinedLocal", "Overrun", "Architecture", "FileSum",
-    "TooManyFiles",
+const EXPLANATIONS = [
+    null, null, null, "Memory was refused, which says nothing of the bytes.", null,
+    "The rows are those of files that have no bytes: one is too long, or has zeros in place of a checksum of 0.", "The stream is closed.",
+    "There is no such kind of stream.",
 ]
 
-const EXPLANATIONS = {
-    HeaderSize: "no FIT file begins here: its first byte says how long the header is, which is 12 or at least 14",
-    Protocol: "the header names a protocol version above 2, which no device writes",
-    NoFit: "the header or a definition leaves bytes at the end of the data that no message can fill",
-    Signature: "the letters .FIT are missing, so this is no FIT file",
-    HeaderSum: "the checksum of the header is wrong",
-    ReservedBit: "a message begins with a bit set that is kept for later",
-    UndefinedLocal: "a message of a type comes that no definition has described",
-    Overrun: "a message goes on after the end of the data that the header names",
-    Architecture: "a definition has neither of the two byte orders",
-    FileSum: "the checksum at the end of the file is wrong: some of its bytes have changed, or the recording was never closed",
-    TooManyFiles: "there are more than 16,777,215 files",
+/* What each reason says of the byte, as profile/reasons.tsv of the project has it. */
+export const REASONS = {
+    HeaderSize: "begins a header of 0 to 11 or 13 bytes",
+    Protocol: "has a major version above 2",
+    NoFit: "leaves 1 to 5 bytes of the data section that no records can fill",
+    Signature: "isn't that of .FIT",
+    HeaderSum: "begins neither the header checksum (the protocol's CRC of the header) nor two zeros",
+    ReservedBit: "is a normal record header with bit 4 set, or one of a data message with bit 5 set",
+    UndefinedLocal: "is the record header of a data message whose local message type isn't defined",
+    Overrun: "begins a message, or is a number of fields, for which too few bytes of the data section remain",
+    Architecture: "is neither 0 nor 1",
+    FileSum: "isn't that of the closing checksum (the protocol's CRC of the file)",
+    TooManyFiles: "follows the 16,777,215th file of a chain",
 }
 
 /* What a call found. It is `good` where the bytes are a FIT file or several, one after another; as text it is the finding. */
@@ -29,17 +31,18 @@ export class Answer {
         this.good = told.status === GOOD
         this.files = this.good ? told.files : 0
         this.place = told.status === REFUSED || told.status === TRUNCATED ? told.place : null
-        this.reason = told.status === REFUSED ? REASONS[told.reason] : null
+        this.reason = told.status === REFUSED ? Object.keys(REASONS)[told.reason - 1] : null
         this.row = told.status === TEXT ? told.row : null
         this.column = told.status === TEXT && told.column !== 0 ? told.column : null
         Object.freeze(this)
     }
 
-    /* The finding in words for a person, or null where it is good. */
+    /* The finding in words, or null where it is good. */
     get explanation() {
-        if (this.good) return null
-        if (this.reason !== null) return EXPLANATIONS[this.reason]
-        return this.place !== null ? "the bytes end before the file does: the recording or its copy was cut" : this.toString()
+        if (this.reason !== null) return `The byte at ${this.place} ${REASONS[this.reason]}.`
+        if (this.place !== null) return `The bytes end at ${this.place}, before the file does.`
+        if (this.row !== null) return this.column === null ? `Row ${this.row} isn't allowed there.` : `The cell in row ${this.row}, column ${this.column} isn't allowed there.`
+        return EXPLANATIONS[this.status]
     }
 
     toString() {

@@ -2,6 +2,7 @@
 import { FitError, judge } from "./answers.mjs"
 import { Columns } from "./columns.mjs"
 import { Core, copied, decoded } from "./core.mjs"
+import { mended } from "./mend.mjs"
 import { Walk, when } from "./messages.mjs"
 import { PIECE, bytesOf, pieces } from "./sources.mjs"
 import { Pipe, Stream, coreOf, transform } from "./streams.mjs"
@@ -11,17 +12,6 @@ function converted(core, call, source, { partial = false, encoded = false } = {}
     const [answer, made] = core.make(call, bytesOf(source), bytes => [encoded ? copied(bytes) : decoded(bytes)])
     judge(answer, partial)
     return made[0]
-}
-
-/* The last rows of a text that `toCsv` made of a file which isn't whole: all its rows end, but the file doesn't. */
-const END = new TextEncoder().encode("end,,,,,,\n")
-
-function closed(rows) {
-    if (rows.length < END.length || END.every((byte, k) => byte === rows[rows.length - END.length + k])) return rows
-    const all = new Uint8Array(rows.length + END.length)
-    all.set(rows)
-    all.set(END, rows.length)
-    return all
 }
 
 /* An instance of the module. It works on one call at a time, and keeps nothing of what it is given but what its streams need. */
@@ -67,16 +57,13 @@ export class Gazhdor {
         return made
     }
 
-    /* The good messages of a file that was cut or damaged as a file of their own, and the files before it as they are. Where not even a header
-     * is good, that is thrown. */
+    /* A good file, or chain of files, of one that was broken off or is damaged. Where there is no good record, its fault is thrown. */
     mend(source) {
-        const rows = closed(this.toCsv(source, { partial: true, encoded: true }))
-        try {
-            return this.fromCsv(rows)
-        } catch (error) {
-            if (error instanceof FitError) judge(this.check(source))
-            throw error
-        }
+        const bytes = bytesOf(source), answer = this.check(bytes)
+        if (answer.good) return copied(bytes)
+        const made = mended(this.#core, bytes)
+        if (made.length === 0 || !this.check(made).good) judge(answer)
+        return made
     }
 
     /* An object for each record message. */
