@@ -42,29 +42,26 @@ export function elapsed({ time, length }) {
     return time.map(one => (one - first) / 1000)
 }
 
-/* Of the points of each column of pixels the first, the least, the greatest and the last, as parts that hang together. */
-function thinned(xs, column) {
+/* Of the points of each column of pixels the first, the least, the greatest and the last, as parts that hang together, each a list of points. */
+function thinned({ at, seconds }, column) {
     const parts = []
-    let part = null, pixel = NaN, before = NaN, kept = null
+    let part = null, pixel = NaN, before = NaN, first = -1, low = -1, high = -1, last = -1
     const flush = () => {
-        if (kept !== null) for (const point of [...new Set([kept.first, ...[kept.low, kept.high].sort((a, b) => a.k - b.k), kept.last])]) part.push(point)
-        kept = null
+        if (first >= 0) for (const k of new Set([first, Math.min(low, high), Math.max(low, high), last])) part.push({ x: at[k], y: column[k] })
+        first = -1
     }
     for (let k = 0; k < column.length; k++) {
-        const point = { k, x: xs.at[k], y: column[k] }
-        if (Number.isNaN(point.y) || Number.isNaN(point.x)) continue
-        if (part === null || Math.abs(xs.seconds[k] - before) > BREAK) {
-            flush()
-            parts.push(part = [])
-            pixel = NaN
-        }
-        before = xs.seconds[k]
-        if (Math.floor(point.x) !== pixel) flush()
-        pixel = Math.floor(point.x)
-        if (kept === null) kept = { first: point, low: point, high: point, last: point }
-        if (point.y < kept.low.y) kept.low = point
-        if (point.y > kept.high.y) kept.high = point
-        kept.last = point
+        const y = column[k], x = Math.floor(at[k])
+        if (Number.isNaN(y) || Number.isNaN(x)) continue
+        const isApart = part === null || Math.abs(seconds[k] - before) > BREAK
+        if (isApart || x !== pixel) flush()
+        if (isApart) parts.push(part = [])
+        before = seconds[k]
+        pixel = x
+        if (first < 0) first = low = high = k
+        if (y < column[low]) low = k
+        if (y > column[high]) high = k
+        last = k
     }
     flush()
     return parts
