@@ -193,6 +193,47 @@ class Extra(unittest.TestCase):
         self.assertRegex(said, r"release \d+\.\d+ of\s+the FIT SDK")
 
 
+class Columns(unittest.TestCase):
+    SOURCE = fit(define(0, 20, [(253, 4, UINT32), (3, 1, UINT8), (83, 2, UINT16), (200, 4, UINT32)]), packed("<BIBHI", 0, 10**9, 120, 812, 10**9 - 5), packed("<BIBHI", 0, 10**9 + 1, 255, 65535, NONE4))
+
+    def test_names(self):
+        """The columns have the names, units and scales of the caller as the messages have them."""
+        own = gazhdor.EXTRA | gazhdor.Names({(20, 3): "pulse", (20, 200): ("began", "s", None, None, "date_time")})
+        wanted = {"pulse": [120, None], "vertical_ratio": [8.12, None], "began": [10**9 - 5, None]}
+        self.assertEqual(gazhdor.lists(self.SOURCE, "record", list(wanted), names=own), wanted)
+        found = gazhdor.lists(self.SOURCE, 20, names=own)
+        self.assertEqual(({key: found[key] for key in wanted}, "heart_rate" in found, 83 in found), (wanted, False, False))
+        self.assertEqual([[m[key] for m in gazhdor.messages(self.SOURCE, names=own)] for key in wanted], list(wanted.values()))
+        self.assertEqual(gazhdor.lists(self.SOURCE, "record", [83, "heart_rate"]), {83: [812, None], "heart_rate": [120, None]})
+        times = gazhdor.lists(self.SOURCE, "record", ["began", "timestamp"], names=own, times=True)
+        self.assertEqual([times["began"][0], times["timestamp"][0]], [gazhdor.when(10**9 - 5), gazhdor.when(10**9)])
+        named = fit(define(0, 140, [(1, 1, UINT8)]), b"\0\5")
+        self.assertEqual(gazhdor.lists(named, "physiology", ["effect"], names={140: "physiology", (140, 1): "effect"}), {"effect": [5]})
+
+    def test_arrays(self):
+        try:
+            import numpy
+        except ModuleNotFoundError:
+            print("tests/python: there is no numpy, so arrays by other names aren't tried", file=sys.stderr)
+            self.skipTest("numpy")
+        (array,) = gazhdor.columns(self.SOURCE, "record", ["vertical_ratio"], names=gazhdor.EXTRA).values()
+        self.assertEqual((array[0], math.isnan(array[1]), array.dtype), (8.12, True, numpy.float64))
+
+    def test_unknown(self):
+        """A name that neither the profile, nor the file, nor the caller has; known ones are columns of None."""
+        for call in (
+            lambda: gazhdor.lists(self.SOURCE, "record", ["hart_rate"]), lambda: gazhdor.lists(self.SOURCE, "record", ["vertical_ratio"]), lambda: gazhdor.lists(self.SOURCE, "recrod"),
+            lambda: gazhdor.lists(self.SOURCE, "record", [".plase"]), lambda: gazhdor.lists(fit(), "lap", ["Form power"]), lambda: gazhdor.lists(self.SOURCE, 140, ["effect"]),
+        ):
+            with self.assertRaises(gazhdor.UnknownName):
+                call()
+        self.assertEqual(gazhdor.lists(self.SOURCE, "record", ["cadence", 99, (0, 1)]), {"cadence": [None, None], 99: [None, None], (0, 1): [None, None]})
+        self.assertEqual(gazhdor.lists(fit(), "lap", ["start_time"]), {"start_time": []})
+        with self.assertRaises(gazhdor.UnknownName) as caught:
+            gazhdor.lists(self.SOURCE, "record", ["hart_rate"])
+        self.assertEqual(caught.exception.nearest, "heart_rate")
+
+
 class Random(unittest.TestCase):
     """Files of random definitions and data, by random names."""
 
