@@ -10,7 +10,8 @@ try {
         const page = await Page.open(browser, new URL("../docs/ride.html", import.meta.url).href)
         await page.value(`new MutationObserver(() => {
             if (document.body.dataset.state === "reading") globalThis.began = performance.now()
-            if (document.body.dataset.state === "shown") requestAnimationFrame(() => setTimeout(() => { globalThis.took = performance.now() - globalThis.began }))
+            if (document.body.dataset.state !== "shown") return
+            requestAnimationFrame(() => setTimeout(() => { globalThis.took = performance.now() - globalThis.began }))
         }).observe(document.body, { attributes: true }), 0`)
         await page.give(resolve(path))
         await page.until("globalThis.took > 0")

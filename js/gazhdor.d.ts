@@ -40,7 +40,7 @@ export class Answer {
     readonly column: number | null
     /** The number that the library has for the finding. */
     readonly status: number
-    /** The finding in words for a person, or null where it is good. */
+    /** The finding in words, or null where it is good. */
     readonly explanation: string | null
     toString(): string
 }

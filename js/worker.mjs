@@ -10,7 +10,8 @@
 import { open } from "./gazhdor.mjs"
 
 const CALLS = ["check", "table", "tableText", "toCsv", "show", "fromCsv", "mend", "messages", "columns"]
-const port = globalThis.WorkerGlobalScope === undefined ? (await import(/* webpackIgnore: true */ /* @vite-ignore */ "node:worker_threads")).parentPort : globalThis
+const isBrowser = globalThis.WorkerGlobalScope !== undefined
+const port = isBrowser ? globalThis : (await import(/* webpackIgnore: true */ /* @vite-ignore */ "node:worker_threads")).parentPort
 
 let opened = open()
 
@@ -39,5 +40,5 @@ async function answer({ number, call, words }) {
     }
 }
 
-if (port === globalThis) port.addEventListener("message", event => answer(event.data))
+if (isBrowser) port.addEventListener("message", event => answer(event.data))
 else port.on("message", answer)

@@ -12,7 +12,8 @@ export class Browser {
     #heard = []
 
     constructor(program) {
-        const words = ["--headless", "--remote-debugging-pipe", "--disable-gpu", "--no-first-run", "--disable-dev-shm-usage", `--user-data-dir=${this.#profile}`]
+        const words = ["--headless", "--remote-debugging-pipe", "--disable-gpu", "--no-first-run", "--disable-dev-shm-usage"]
+        words.push(`--user-data-dir=${this.#profile}`)
         if (process.getuid() === 0) words.push("--no-sandbox")
         this.#child = spawn(program, [...words, "about:blank"], { stdio: ["ignore", "ignore", "ignore", "pipe", "pipe"] })
         let rest = ""

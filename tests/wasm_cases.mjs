@@ -18,7 +18,8 @@ const core = await opened()
 
 /* The numbers of an answer, as the library has them. */
 function numbers(answer) {
-    const reasons = ["HeaderSize", "Protocol", "NoFit", "Signature", "HeaderSum", "ReservedBit", "UndefinedLocal", "Overrun", "Architecture", "FileSum", "TooManyFiles"]
+    const reasons = ["HeaderSize", "Protocol", "NoFit", "Signature", "HeaderSum", "ReservedBit", "UndefinedLocal", "Overrun", "Architecture", "FileSum",
+        "TooManyFiles"]
     return [answer.status, reasons.indexOf(answer.reason) + 1, answer.place ?? 0, answer.row ?? 0, answer.column ?? 0, answer.files]
 }
 

@@ -55,7 +55,8 @@ async function seeGood() {
     assert.match(await page.text("#finding"), /^ride\.fit: a good FIT file\n+3,260 bytes, read in \d+ ms$/)
     assert.match(await page.text("#summary"), /8\.56 km/)
     assert.equal(await page.value("document.querySelectorAll('#drawn .plot').length"), 3)
-    for (const chart of ["#altitude", "#speed", "#track"]) assert.ok(await page.value(`document.querySelector('${chart} .drawn').getAttribute('d').length > 500`), chart)
+    for (const chart of ["#altitude", "#speed", "#track"])
+        assert.ok(await page.value(`document.querySelector('${chart} .drawn').getAttribute('d').length > 500`), chart)
     assert.match(await page.text("#altitude output"), /^391 to 425 m$/)
     assert.equal(await page.value("document.querySelectorAll('#tables tbody tr').length"), 1)
     assert.match(await page.text("#counts"), /144 record/)
@@ -69,7 +70,8 @@ async function seeGood() {
 async function seeCut() {
     const page = await Page.open(browser, URL_OF_PAGE), cut = RIDE.subarray(0, 2000)
     await page.give(laid("cut.fit", cut))
-    assert.match(await page.text("#finding"), /^cut\.fit: truncated at byte 2000\n+The bytes end at 2000, before the file does\. .*What comes before that is shown/)
+    const text = /^cut\.fit: truncated at byte 2000\n+The bytes end at 2000, before the file does\. .*What comes before that is shown/
+    assert.match(await page.text("#finding"), text)
     assert.deepEqual(await saved(page, "mended", "cut-mended.fit"), Buffer.from(gazhdor.mend(cut)))
     await page.give(join(folder, "cut-mended.fit"))
     assert.match(await page.text("#finding"), /a good FIT file/)
@@ -105,7 +107,8 @@ fdef,1,4,133,,,
 fdef,2,8,143,,,
 fdef,3,12,7,,,
 fdef,7,8,137,,,
-${record(4294967294, 2147483646, -2147483648, "3689348814741909822.8", "<b>x</b>", "0x7FF0000000000000")}${record(5, -2147483648, 2147483646, "-500.0", "</script>", "0xFFF0000000000000")}${
+${record(4294967294, 2147483646, -2147483648, "3689348814741909822.8", "<b>x</b>", "0x7FF0000000000000")}${
+record(5, -2147483648, 2147483646, "-500.0", "</script>", "0xFFF0000000000000")}${
 record(1000000000, 0, 0, "", "", "0x7E37E43C8800759C")}end,,,,,,
 `)
 }
@@ -126,7 +129,8 @@ async function seePhone() {
     const page = await Page.open(browser, URL_OF_PAGE, { width: 360, height: 780, scale: 2 })
     for (const [name, bytes] of [["ride.fit", RIDE], ["cut.fit", RIDE.subarray(0, 2000)], [`${"long".repeat(60)}.fit`, hostile()]]) {
         await page.give(laid(name, bytes))
-        assert.equal(await page.value("[...document.querySelectorAll('main *')].filter(one => one.closest('.wide, svg') === null && one.getBoundingClientRect().right > 360).map(one => one.outerHTML.slice(0, 200)).join()"), "", name)
+        const outside = "one => one.closest('.wide, svg') === null && one.getBoundingClientRect().right > 360"
+        assert.equal(await page.value(`[...document.querySelectorAll('main *')].filter(${outside}).map(one => one.outerHTML.slice(0, 200)).join()`), "", name)
         assert.ok(await page.value("document.documentElement.scrollWidth <= 360"), name)
     }
     seeQuiet(page)

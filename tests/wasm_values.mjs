@@ -60,6 +60,15 @@ function seeValue(value, exact, what) {
     else if (typeof exact === "string" && typeof value === "number") assert.equal(value, Number(exact), what)
 }
 
+const NUMBERS = [0, 1, 2, 10, 131, 132, 133, 134, 136, 137, 139, 140, 142, 143, 144] // the codes of numbers
+
+/* Whether a value is the text up to the first zero, or the bytes, and null only where there is none. */
+function seeBytes({ value, raw, baseType }, what) {
+    if (baseType === 7) assert.equal(value ?? "", Buffer.from(raw).toString().split("\0")[0], what)
+    else if (raw.length === 0 || (!NUMBERS.includes(baseType) && raw.every(byte => byte === 0xff))) assert.equal(value, null, what)
+    else assert.deepEqual(value, raw, what)
+}
+
 function seeMessage(message, [, local, offset, name, time], cells) {
     const what = `${name} at ${message.place}`, { fields } = message
     assert.equal(message.name ?? `message_${message.number}`, name)
@@ -73,7 +82,8 @@ function seeMessage(message, [, local, offset, name, time], cells) {
         assert.equal(cellOf(field), cell, `${what}: ${label}`)
         const first = fields.findIndex(one => one.number === field.number && one.developer === field.developer) === k
         if (first) assert.deepEqual(message.get(field.developer === null ? field.number : [field.developer, field.number]), field.value, what)
-        if (typeof field.value !== "string" && !(field.raw instanceof Uint8Array)) seeValue(field.value, field.exact, `${what}: ${label}`)
+        if (field.raw instanceof Uint8Array) seeBytes(field, `${what}: ${label}`)
+        else seeValue(field.value, field.exact, `${what}: ${label}`)
     })
 }
 

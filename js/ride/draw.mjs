@@ -113,7 +113,8 @@ function chart(place, { name, title, unit, column, digits, filled }, xs, last) {
         if (filled) svg.append(made("path", { class: "under", d: `${pathOf(line)}V${height - foot}H${line[0].x.toFixed(1)}Z` }))
         svg.append(made("path", { class: "drawn", d: line.length > 1 ? pathOf(line) : `${pathOf(line)}h.1` }))
     }
-    const here = made("g", { visibility: "hidden" }), bar = made("line", { class: "here", y1: 0, y2: height - foot }), dot = made("circle", { r: 4, fill: `var(--${name})` })
+    const here = made("g", { visibility: "hidden" }), bar = made("line", { class: "here", y1: 0, y2: height - foot })
+    const dot = made("circle", { r: 4, fill: `var(--${name})` })
     here.append(bar, dot)
     svg.append(...texts, here)
     const text = one => `${one.toFixed(digits)} ${unit}`

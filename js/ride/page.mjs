@@ -50,14 +50,16 @@ function say(kind, text, more, ...others) {
 
 const kilo = one => (one / 1000).toFixed(2)
 const whole = one => one.toFixed(0)
+const hourly = one => (one * 3.6).toFixed(1)
+const DAY = { day: "numeric", month: "short", year: "numeric" }, HOUR = { hour: "2-digit", minute: "2-digit" }
 const SPORTS = {
     1: "Running", 2: "Cycling", 3: "Transition", 4: "Fitness equipment", 5: "Swimming", 10: "Training", 11: "Walking", 12: "Cross-country skiing",
     13: "Alpine skiing", 14: "Snowboarding", 15: "Rowing", 16: "Mountaineering", 17: "Hiking", 18: "Multisport", 19: "Paddling", 21: "E-biking",
 }
 const COLUMNS = [
     ["start", "Start", one => new Date(one).toLocaleString()], ["sport", "Sport", one => SPORTS[one] ?? `sport ${one}`], ["total_distance", "km", kilo],
-    ["total_timer_time", "Time", duration], ["total_elapsed_time", "With pauses", duration], ["avg_speed", "km/h", one => (one * 3.6).toFixed(1)],
-    ["max_speed", "Max. km/h", one => (one * 3.6).toFixed(1)], ["avg_heart_rate", "bpm", whole], ["max_heart_rate", "Max. bpm", whole],
+    ["total_timer_time", "Time", duration], ["total_elapsed_time", "With pauses", duration], ["avg_speed", "km/h", hourly],
+    ["max_speed", "Max. km/h", hourly], ["avg_heart_rate", "bpm", whole], ["max_heart_rate", "Max. bpm", whole],
     ["avg_cadence", "rpm", whole], ["avg_power", "W", whole], ["max_power", "Max. W", whole], ["total_ascent", "Up m", whole],
     ["total_descent", "Down m", whole], ["total_calories", "kcal", whole],
 ]
@@ -90,23 +92,25 @@ function totalsOf({ sessions, points }) {
     const one = name => (sessions.length === 1 ? sessions[0][name] : null)
     return {
         distance, time, speed: distance !== null && time > 0 ? distance / time : null, ascent: sum("total_ascent"), calories: sum("total_calories"),
-        heart_rate: one("avg_heart_rate") ?? mean(points.heart_rate), most: most("max_heart_rate") ?? (points.heart_rate ? range(points.heart_rate).high : null),
+        heart_rate: one("avg_heart_rate") ?? mean(points.heart_rate),
+        most: most("max_heart_rate") ?? (points.heart_rate ? range(points.heart_rate).high : null),
         power: one("avg_power") ?? mean(points.power), start: sessions[0]?.start ?? points.time?.find(moment => !Number.isNaN(moment)) ?? null,
     }
 }
 
 function cards(ride) {
     const all = totalsOf(ride), sport = SPORTS[ride.sessions[0]?.sport] ?? "Start", start = all.start === null ? null : new Date(all.start)
+    const text = (value, unit, shown = whole) => (value === null ? undefined : `${shown(value)}${unit}`)
     const told = [
-        [start?.toLocaleDateString(undefined, { day: "numeric", month: "short", year: "numeric" }), start && `${sport}, ${start.toLocaleTimeString(undefined, { hour: "2-digit", minute: "2-digit" })}`],
-        [all.distance === null ? undefined : `${kilo(all.distance)} km`, "distance"], [all.time === null ? undefined : duration(all.time), "time"],
-        [all.speed === null ? undefined : `${(all.speed * 3.6).toFixed(1)} km/h`, "mean speed"], [all.ascent === null ? undefined : `${whole(all.ascent)} m`, "ascent"],
-        [all.heart_rate === null ? undefined : `${whole(all.heart_rate)} bpm`, all.most === null ? "mean heart rate" : `mean heart rate, at most ${whole(all.most)}`],
-        [all.power === null ? undefined : `${whole(all.power)} W`, "mean power"], [all.calories === null ? undefined : `${whole(all.calories)} kcal`, "energy"],
-    ].filter(([text]) => text !== undefined)
-    $("summary").replaceChildren(...told.map(([text, name]) => {
+        [start?.toLocaleDateString(undefined, DAY), `${sport}, ${start?.toLocaleTimeString(undefined, HOUR)}`],
+        [text(all.distance, " km", kilo), "distance"], [text(all.time, "", duration), "time"], [text(all.speed, " km/h", hourly), "mean speed"],
+        [text(all.ascent, " m"), "ascent"],
+        [text(all.heart_rate, " bpm"), all.most === null ? "mean heart rate" : `mean heart rate, at most ${whole(all.most)}`],
+        [text(all.power, " W"), "mean power"], [text(all.calories, " kcal"), "energy"],
+    ].filter(([value]) => value !== undefined)
+    $("summary").replaceChildren(...told.map(([value, name]) => {
         const card = element("div", undefined, { className: "card" })
-        card.append(element("b", text), element("small", name))
+        card.append(element("b", value), element("small", name))
         return card
     }))
 }
@@ -114,15 +118,18 @@ function cards(ride) {
 // ---- charts
 
 const CHARTS = [
-    { name: "altitude", title: "Altitude", unit: "m", factor: 1, digits: 0, filled: true }, { name: "speed", title: "Speed", unit: "km/h", factor: 3.6, digits: 1 },
-    { name: "heart_rate", title: "Heart rate", unit: "bpm", factor: 1, digits: 0 }, { name: "power", title: "Power", unit: "W", factor: 1, digits: 0 },
-    { name: "cadence", title: "Cadence", unit: "rpm", factor: 1, digits: 0 }, { name: "temperature", title: "Temperature", unit: "°C", factor: 1, digits: 0 },
+    { name: "altitude", title: "Altitude", unit: "m", factor: 1, digits: 0, filled: true },
+    { name: "speed", title: "Speed", unit: "km/h", factor: 3.6, digits: 1 },
+    { name: "heart_rate", title: "Heart rate", unit: "bpm", factor: 1, digits: 0 },
+    { name: "power", title: "Power", unit: "W", factor: 1, digits: 0 },
+    { name: "cadence", title: "Cadence", unit: "rpm", factor: 1, digits: 0 },
+    { name: "temperature", title: "Temperature", unit: "°C", factor: 1, digits: 0 },
 ]
 let redraw = () => {}
 
 function plot(name, title) {
-    const place = element("div", undefined, { className: name === "track" ? "plot track" : "plot", id: name }), svg = document.createElementNS("http://www.w3.org/2000/svg", "svg")
-    const head = element("h2")
+    const place = element("div", undefined, { className: name === "track" ? "plot track" : "plot", id: name })
+    const head = element("h2"), svg = document.createElementNS("http://www.w3.org/2000/svg", "svg")
     head.append(element("span", title), document.createElement("output"))
     svg.setAttribute("role", "img")
     place.style.setProperty("--of", `var(--${name === "track" ? "strong" : name})`)
@@ -154,9 +161,13 @@ new ResizeObserver(() => {
 
 /* What a fault mostly comes from. */
 const ADVICE = {
-    HeaderSize: "No FIT file begins there; before that place there may be good ones.", Protocol: "This is most likely no FIT file.", Signature: "This is most likely no FIT file.",
-    HeaderSum: "Some bytes of the header have changed, or the recording was never closed.", FileSum: "Some bytes have changed, or the recording was never closed.",
-    Truncated: "The recording or its copy was cut.", Other: "Some bytes before that place have changed or are missing.",
+    HeaderSize: "No FIT file begins there; before that place there may be good ones.",
+    Protocol: "This is most likely no FIT file.",
+    Signature: "This is most likely no FIT file.",
+    HeaderSum: "Some bytes of the header have changed, or the recording was never closed.",
+    FileSum: "Some bytes have changed, or the recording was never closed.",
+    Truncated: "The recording or its copy was cut.",
+    Other: "Some bytes before that place have changed or are missing.",
 }
 
 function adviceOf({ place, reason, explanation }, isShown, took) {
@@ -180,9 +191,11 @@ function show(ride) {
     $("mended").hidden = ride.finding.good
     document.body.classList.add("loaded")
     cards(ride)
-    $("tables").replaceChildren(...[["Sessions", ride.sessions], ["Laps", ride.laps]].filter(([, all]) => all.length).map(([title, all]) => tableOf(title, all)))
+    const tables = [["Sessions", ride.sessions], ["Laps", ride.laps]].filter(([, all]) => all.length)
+    $("tables").replaceChildren(...tables.map(([title, all]) => tableOf(title, all)))
     const many = ride.counts.reduce((all, [, count]) => all + count, 0)
-    $("counts").replaceChildren(element("h2", `${many.toLocaleString()} messages`), element("p", ride.counts.slice(0, 100).map(([kind, count]) => `${count.toLocaleString()} ${kind}`).join(", ") + (ride.counts.length > 100 ? ", .." : "")))
+    const kinds = ride.counts.slice(0, 100).map(([kind, count]) => `${count.toLocaleString()} ${kind}`).join(", ")
+    $("counts").replaceChildren(element("h2", `${many.toLocaleString()} messages`), element("p", ride.counts.length > 100 ? `${kinds}, ..` : kinds))
     charts(rows ? ride : { points: { length: 0 } })
     document.body.dataset.state = "shown"
 }
@@ -209,9 +222,10 @@ async function save(button) {
     $("saved").textContent = ""
     try {
         const bytes = await ask(button.dataset.call)
-        const link = element("a", undefined, { href: URL.createObjectURL(new Blob([bytes], { type: button.dataset.type })), download: name.replace(/\.fit$/i, "") + button.dataset.ending })
+        const href = URL.createObjectURL(new Blob([bytes], { type: button.dataset.type }))
+        const link = element("a", undefined, { href, download: name.replace(/\.fit$/i, "") + button.dataset.ending })
         link.click()
-        setTimeout(() => URL.revokeObjectURL(link.href), 60000)
+        setTimeout(() => URL.revokeObjectURL(href), 60000)
         $("saved").textContent = `${link.download}: ${bytes.length.toLocaleString()} bytes`
     } catch (error) {
         $("saved").textContent = `Not saved: ${error.message}`

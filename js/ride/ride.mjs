@@ -68,7 +68,8 @@ function messagesOf(gazhdor, bytes) {
 function rideOf(gazhdor, bytes) {
     const answer = gazhdor.check(bytes)
     const { good, files, place, reason, explanation } = answer
-    return { finding: { good, files, place, reason, explanation, text: `${answer}` }, size: bytes.length, points: pointsOf(gazhdor, bytes), ...messagesOf(gazhdor, bytes) }
+    const finding = { good, files, place, reason, explanation, text: `${answer}` }
+    return { finding, size: bytes.length, points: pointsOf(gazhdor, bytes), ...messagesOf(gazhdor, bytes) }
 }
 
 let module, bytes, gazhdor

@@ -41,7 +41,8 @@ export class Answer {
     get explanation() {
         if (this.reason !== null) return `The byte at ${this.place} ${REASONS[this.reason]}.`
         if (this.place !== null) return `The bytes end at ${this.place}, before the file does.`
-        if (this.row !== null) return this.column === null ? `Row ${this.row} isn't allowed there.` : `The cell in row ${this.row}, column ${this.column} isn't allowed there.`
+        if (this.column !== null) return `The cell in row ${this.row}, column ${this.column} isn't allowed there.`
+        if (this.row !== null) return `Row ${this.row} isn't allowed there.`
         return EXPLANATIONS[this.status]
     }
 
