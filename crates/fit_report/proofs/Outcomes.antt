@@ -8,9 +8,11 @@ use Rattle.std.proofs.Math.Seq.{take-append_seam}
 use Rattle.fit_chain.specs.Memory.{IsAny, MayLackMemoryIn}
 use Rattle.fit_report.specs.Reports.{TellsSome}
 use Rattle.fit_chain.specs.Checks.{AreChain}
-use Rattle.fit_decode.specs.Reads.{piece_size, IsInPiece, IsNearlyViable}
-use Rattle.fit_decode.proofs.Nearly.{nearly, wants_in_piece}
+use Rattle.fit_report.specs.Reports.{piece_size, IsInPiece, IsNearlyViable}
+use Rattle.fit_decode.proofs.Nearly.{wants_in_piece}
+use Rattle.fit_report.proofs.Common.{Global, Consumes-nothing, ToldSoFar, nothing_viable}
 use Rattle.fit_report.proofs.Texts.{Appends-nothing}
+use Rattle.fit_report.specs.inner.Passing.{HasComeTo}
 
 -- ---- no bytes
 
@@ -28,6 +30,43 @@ stands_before {A} has_heard line reporter bytes start none has = record {
   put = Appends-nothing start;
   counted = omega arith;
 }
+
+-- A report that has told nothing has come to no byte.
+pub comes_to_nothing : {R : Type 0} (has_heard : R → List (Event Global) → Type 0) (line : Lines Global) (reporter : R) (telling : ToldSoFar)
+    (begin start : Option (List ℕ)) → telling ≡ record { seen = record { bytes = []; refusal = None }; written = 0 } → has_heard reporter []
+    → HasComeTo has_heard line reporter telling 0 begin begin start start
+comes_to_nothing has_heard line reporter telling begin start fresh has =
+    let none = ap (λ (t : ToldSoFar). t.seen.bytes) fresh in
+    record {
+      fresh = ap (λ (t : ToldSoFar). t.seen.refusal) fresh;
+      viable = subst (IsViable Global chain_limit) (sym none) (nothing_viable Global);
+      counted = ap length (sym none);
+      eaten = subst (Consumes begin begin) (sym none) (Consumes-nothing begin);
+      stands = subst (Stands has_heard line reporter telling.seen.bytes [] start start) (sym (ap (λ (t : ToldSoFar). t.written) fresh))
+          (stands_before has_heard line reporter telling.seen.bytes start none has);
+    }
+
+-- the place after the first piece
+pub after_first : {R : Type 0} {has_heard : R → List (Event Global) → Type 0} {line : Lines Global} {reporter : R} {telling : ToldSoFar} (n : ℕ)
+    {begin source start sink : Option (List ℕ)} → HasComeTo has_heard line reporter telling (0 + n) begin source start sink
+    → HasComeTo has_heard line reporter telling n begin source start sink
+after_first {has_heard = has_heard} {line = line} {reporter = reporter} {telling = telling} n {begin = begin} {source = source} {start = start} {sink = sink} come =
+    let same : 0 + n ≡ n = omega arith in
+    subst (λ k. HasComeTo has_heard line reporter telling k begin source start sink) same come
+
+-- ---- all but a last piece begins some files
+
+nearly : {A : Type 0} (limit : ℕ) (before piece taken : List ℕ) → taken ≡ before ++ piece → length piece ≤ piece_size → IsViable A limit before
+    → IsNearlyViable A limit taken
+nearly {A} limit before piece taken parts short viable = (
+  length before,
+  omega (arith, ap length parts, length-append before piece),
+  omega (arith, ap length parts, length-append before piece, short),
+  subst (IsViable A limit) (sym (ap (take (length before)) parts ∙ take-append_seam before piece)) viable,
+)
+
+pub all_viable : {A : Type 0} (limit : ℕ) (taken : List ℕ) → IsViable A limit taken → IsNearlyViable A limit taken
+all_viable limit taken viable = nearly limit taken [] taken (sym (append-nil taken)) (omega arith) viable
 
 -- ---- a fault in a piece
 

@@ -1,18 +1,30 @@
 -- What a report of the bytes of a source puts in a sink.
-use Rattle.std.specs.Prelude.{◌≡◌, ℕ, ◌-◌, ◌^◌, ◌<◌, min, true, false, List, Result, Ok, Err, take, length, reverse, flat_map}
+use Rattle.std.specs.Prelude.{◌≡◌, ℕ, ◌+◌, ◌-◌, ◌^◌, ◌<◌, ◌≤◌, min, true, false, List, Result, Ok, Err, take, length, reverse, flat_map}
 use Rattle.std.specs.Io.KnownBytes.{Appends, Consumes, IsAtEnd}
 use Rattle.fit_record.specs.declared.file.FitFile.{FitFile}
-use Rattle.fit_record.specs.Files.{chain_limit}
+use Rattle.fit_record.specs.Files.{chain_limit, IsViable}
 use Rattle.fit_chain.specs.declared.event.Fault.{Fault}
 use Rattle.fit_chain.specs.declared.event.Fault.TheVariants.{Refused, NoMemory, Read}
 use Rattle.fit_chain.specs.Checks.{AreChain}
 use Rattle.fit_chain.specs.Events.{Event, AreEvents, file_events}
 pub use Rattle.fit_decode.specs.Reads.{Channel, channel}
 use Rattle.fit_chain.specs.Memory.{IsAny}
-use Rattle.fit_decode.specs.Reads.{EndsReading, IsInPiece, IsNearlyViable, WantsMemory}
+use Rattle.fit_decode.specs.Reads.{EndsReading, WantsMemory}
 use Rattle.fit_report.specs.declared.fault.ReportFault.{ReportFault}
 use Rattle.fit_report.specs.declared.fault.ReportFault.TheVariants as report
 use Rattle.fit_report.specs.Heard.{Lines, text_of}
+
+-- the most bytes that a report takes at once: a piece
+abbrev pub piece_size : ℕ
+piece_size = 65536
+
+-- At most a piece was taken from this place on.
+abbrev pub IsInPiece : List ℕ → ℕ → Type 0
+IsInPiece taken place = length taken ≤ place + piece_size
+
+-- Some files of at most that many begin with these bytes, but for a last piece.
+abbrev pub IsNearlyViable : Type 0 → ℕ → List ℕ → Type 0
+IsNearlyViable A limit taken = (k : ℕ) × (k ≤ length taken) × (length taken ≤ k + piece_size) × IsViable A limit (take k taken)
 
 -- The fault that ended the reading of a chain of at most that many files, after these bytes were taken.
 abbrev pub Faults : Type 0 → ℕ → List ℕ → Channel → Fault → Type 0

@@ -1,11 +1,14 @@
 -- What the parts of a report do.
-use Rattle.std.specs.Prelude.{◌≡◌, ℕ, ◌+◌, ◌-◌, ◌^◌, ◌<◌, ◌≤◌, min, true, List, Result, Ok, Err, take, length}
-use Rattle.std.specs.Io.KnownBytes.{Appends}
+use Rattle.std.specs.Prelude.{◌≡◌, ℕ, ◌+◌, ◌-◌, ◌^◌, ◌<◌, ◌≤◌, min, true, List, [], Option, None, Result, Ok, Err, take, length}
+use Rattle.std.specs.Io.KnownBytes.{Appends, Consumes}
 use Rattle.std.specs.Global.{Global}
 use Rattle.fit_record.specs.Files.{chain_limit, IsViable}
 use Rattle.fit_report.specs.declared.fault.ReportFault.{ReportFault}
 use Rattle.fit_report.specs.declared.fault.ReportFault.TheVariants.{Write}
-use Rattle.fit_report.specs.Reports.{Channel}
+use Rattle.fit_chain.specs.Events.{Event}
+use Rattle.fit_report.specs.Heard.{Lines}
+use Rattle.fit_report.specs.Reports.{Channel, Reports}
+use Rattle.fit_report.specs.Telling.{Stands, ToldSoFar}
 
 -- What the putting of a text did, after that many bytes of text.
 abbrev pub Puts : List ℕ → Channel → ℕ → ℕ → Result (Unit {0}) ReportFault → Type 0
@@ -18,3 +21,28 @@ Puts text sink old new (Err fault) = ⊥
 pub record IsSoundTelling (bytes : List ℕ) (room : ℕ) : Type 0 where
   pub viable : IsViable Global chain_limit bytes
   pub bounded : room ≤ 65536
+
+-- A report has come to a place: all bytes up to there were taken from a source and told in a sink, which began so.
+pub record HasComeTo {R : Type 0} (has_heard : R → List (Event Global) → Type 0) (line : Lines Global) (reporter : R) (telling : ToldSoFar) (place : ℕ)
+    (begin source start sink : Option (List ℕ)) : Type 0 where
+  pub fresh : telling.seen.refusal ≡ None
+  pub viable : IsViable Global chain_limit telling.seen.bytes
+  pub counted : place ≡ length telling.seen.bytes
+  pub eaten : Consumes begin source telling.seen.bytes
+  pub stands : Stands has_heard line reporter telling.seen.bytes [] start sink telling.written
+
+-- What a report did that came to a place, by its source and its sink as they were at first.
+abbrev pub ReportsFrom : {R : Type 0} → (R → List (Event Global) → Type 0) → Lines Global → R → R → ToldSoFar → ℕ → Channel → Channel
+    → Result (Unit {0}) ReportFault → Type 0
+ReportsFrom has_heard line before after telling place source sink result =
+    (begin start : Option (List ℕ)) → HasComeTo has_heard line before telling place begin source.before start sink.before
+    → Reports has_heard after line (record source { before = begin }) (record sink { before = start }) result
+
+-- What the telling of one more piece did, of that many bytes: none at the end of the input.
+abbrev pub TellsPiece : {R : Type 0} → (R → List (Event Global) → Type 0) → Lines Global → R → R → ToldSoFar → ToldSoFar → ℕ → Channel → Channel
+    → Result ℕ ReportFault → Type 0
+TellsPiece has_heard line before after old new place source sink (Err fault) = ReportsFrom has_heard line before after old place source sink (Err fault)
+TellsPiece has_heard line before after old new place source sink (Ok got) =
+    (got ≡ 0 → ReportsFrom has_heard line before after old place source sink (Ok tt))
+    × (0 < got → (begin start : Option (List ℕ)) → HasComeTo has_heard line before old place begin source.before start sink.before
+    → HasComeTo has_heard line after new (place + got) begin source.after start sink.after)

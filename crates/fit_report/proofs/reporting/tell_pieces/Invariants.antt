@@ -1,16 +1,15 @@
-use Rattle.fit_report.proofs.Common.{◌≡◌, ◌-◌, [], None, false, length, Global, Consumes, chain_limit, IsViable, Stands}
+use Rattle.fit_report.proofs.Common.{◌≡◌, ◌-◌, ℕ, List, Option, false, length}
+use Rattle.fit_report.specs.inner.Passing.{HasComeTo}
 use Rattle.fit_report.proofs.reporting.tell_pieces.Given as goal
 
 abbrev pub invariant-pieces : goal.invariant-pieces
 invariant-pieces g l = record {
-  fresh : l.telling.seen.refusal ≡ None;
-  viable : IsViable Global chain_limit l.telling.seen.bytes;
-  counted : l.place ≡ length l.telling.seen.bytes;
-  eaten : Consumes (g.S.Source.remaining l.initial.source) (g.S.Source.remaining l.source) l.telling.seen.bytes;
+  come : (begin start : Option (List ℕ)) → HasComeTo g.R.Report.has_heard g.R.Report.line l.initial.reporter l.initial.telling l.initial.place begin
+      (g.S.Source.remaining l.initial.source) start (g.K.Sink.contents l.initial.sink)
+      → HasComeTo g.R.Report.has_heard g.R.Report.line l.reporter l.telling l.place begin (g.S.Source.remaining l.source) start (g.K.Sink.contents l.sink);
   works : g.K.Sink.has_failed l.initial.sink ≡ false → g.K.Sink.has_failed l.sink ≡ false;
-  stands : Stands g.R.Report.has_heard g.R.Report.line l.reporter l.telling.seen.bytes [] (g.K.Sink.contents l.initial.sink) (g.K.Sink.contents l.sink)
-      l.telling.written;
+  same : length l.buffer ≡ length l.initial.buffer;
 }
 
 abbrev pub decreases-pieces : goal.decreases-pieces
-decreases-pieces g l = 144115188075855872 - length l.telling.seen.bytes
+decreases-pieces g l = 144115188075855872 - l.place
