@@ -6,9 +6,8 @@ use Rattle.fit_csv.proofs.Common.{HasText, csv_fault}
 use Rattle.std.proofs.Common.{ℕ, ◌<◌, List, reverse, Option, Ok, length-append}
 use Rattle.std.proofs.lemmas.List.{append-nil}
 use Rattle.fit_decode.proofs.FileRead.{nothing_viable}
-use Rattle.fit_decode.proofs.Nearly.{all_viable}
 use Rattle.fit_report.specs.declared.fault.ReportFault.{ReportFault}
-use Rattle.fit_report.proofs.Outcomes.{nothing_heard}
+use Rattle.fit_report.proofs.Outcomes.{all_viable, nothing_heard}
 use Rattle.fit_encode.proofs.Written.{Appends-on}
 use Rattle.fit_chain.specs.declared.event.Fault.TheVariants as faults
 use Rattle.fit_report.specs.declared.fault.ReportFault.TheVariants as report

@@ -7,8 +7,8 @@ use Rattle.fit_chain.specs.declared.event.Fault.TheVariants as faults
 use Rattle.fit_chain.specs.Checks.{AreChain}
 use Rattle.fit_chain.specs.Events.{Event, AreEvents}
 use Rattle.fit_chain.specs.Memory.{IsAny}
-use Rattle.fit_decode.specs.Reads.{IsInPiece, IsNearlyViable, WantsMemory}
-use Rattle.fit_report.specs.Reports.{Channel, TextFailsIn, Faults, before_fault}
+use Rattle.fit_decode.specs.Reads.{WantsMemory}
+use Rattle.fit_report.specs.Reports.{Channel, IsInPiece, IsNearlyViable, TextFailsIn, Faults, before_fault}
 use Rattle.fit_csv.specs.declared.fault.CsvFault.{CsvFault}
 use Rattle.fit_csv.specs.declared.fault.CsvFault.TheVariants as csv
 use Rattle.fit_cells.specs.Rows.{Row, csv_text}

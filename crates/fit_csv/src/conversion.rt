@@ -62,7 +62,7 @@ pub(crate) fn convert<S: Source, K: Sink, R: Report>(
     }
 }
 
-/// Writes a chain of FIT files as CSV text: the first line, and then the rows of each file. It takes pieces of at most 4,096 bytes
+/// Writes a chain of FIT files as CSV text: the first line, and then the rows of each file. It takes pieces of at most 65,536 bytes
 /// from the source, to the end of the input or the first fault, and writes the rows of an event as soon as it is whole.
 ///
 /// `Decode` where the input is no chain of files or the source failed: the first line and the rows of all events before the fault
@@ -90,7 +90,7 @@ pub fn to_csv<S: Source, K: Sink>(
 }
 
 /// Writes the table of a chain of FIT files as CSV text: the first line, and then a row for each record message. It takes pieces of
-/// at most 4,096 bytes from the source, to the end of the input or the first fault, and writes a row as soon as its message is whole.
+/// at most 65,536 bytes from the source, to the end of the input or the first fault, and writes a row as soon as its message is whole.
 /// Its faults are those of `to_csv`.
 pub fn table<S: Source, K: Sink>(
     alloc: Global,

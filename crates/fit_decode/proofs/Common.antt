@@ -55,7 +55,7 @@ pub use Rattle.fit_step.specs.declared.stop.Stop.{Stop}
 pub use Rattle.fit_sum.specs.Checksum.{checksum}
 pub use denote.Param.{layout}
 pub use Rattle.fit_decode.specs.Answers.{Refuses, Wants, fed, event_of, Seen as Fed}
-pub use Rattle.fit_decode.specs.Reads.{EndsReading, ReadsChain, GivesChain, GivesFile, IsNearlyViable, piece_size, EndsChain, GivesNext, Past}
+pub use Rattle.fit_decode.specs.Reads.{EndsReading, ReadsChain, GivesChain, GivesFile, piece_size, EndsChain, GivesNext, Past}
 pub use Rattle.fit_decode.specs.Reads.{Channel, BeginsWithFile, ReadsOne, IsInNeededPiece, WantsMemory}
 pub use Rattle.fit_decode.specs.declared.decoder.Decoder.TheInside.{Inside}
 pub use Rattle.fit_decode.specs.declared.section.Section.{Section}

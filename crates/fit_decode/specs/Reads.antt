@@ -33,14 +33,6 @@ BeginsWithFile A bytes = (f : FitFile A) × (b : List ℕ) × (rest : List ℕ) 
 abbrev pub piece_size : ℕ
 piece_size = 4096
 
--- Some files of at most that many begin with these bytes, but for a last piece.
-abbrev pub IsNearlyViable : Type 0 → ℕ → List ℕ → Type 0
-IsNearlyViable A limit taken = (k : ℕ) × (k ≤ length taken) × (length taken ≤ k + piece_size) × IsViable A limit (take k taken)
-
--- At most a piece was taken from this place on.
-abbrev pub IsInPiece : List ℕ → ℕ → Type 0
-IsInPiece taken place = length taken ≤ place + piece_size
-
 -- After the first k bytes, which end before this place or at it, at most a piece was taken, and no more than is missing there until a
 -- file ends.
 abbrev pub IsInNeededPiece : Type 0 → List ℕ → ℕ → Type 0

@@ -8,7 +8,7 @@ use Rattle.std.proofs.Math.Seq.{take-append_seam}
 use Rattle.fit_chain.specs.Memory.{IsAny, MayLackMemoryIn}
 use Rattle.fit_report.specs.Reports.{TellsSome}
 use Rattle.fit_chain.specs.Checks.{AreChain}
-use Rattle.fit_report.specs.Reports.{piece_size, IsInPiece, IsNearlyViable}
+use Rattle.fit_report.specs.Reports.{long_piece, IsInPiece, IsNearlyViable}
 use Rattle.fit_decode.proofs.Nearly.{wants_in_piece}
 use Rattle.fit_report.proofs.Common.{Global, Consumes-nothing, ToldSoFar, nothing_viable}
 use Rattle.fit_report.proofs.Texts.{Appends-nothing}
@@ -56,7 +56,7 @@ after_first {has_heard = has_heard} {line = line} {reporter = reporter} {telling
 
 -- ---- all but a last piece begins some files
 
-nearly : {A : Type 0} (limit : ℕ) (before piece taken : List ℕ) → taken ≡ before ++ piece → length piece ≤ piece_size → IsViable A limit before
+nearly : {A : Type 0} (limit : ℕ) (before piece taken : List ℕ) → taken ≡ before ++ piece → length piece ≤ long_piece → IsViable A limit before
     → IsNearlyViable A limit taken
 nearly {A} limit before piece taken parts short viable = (
   length before,
@@ -71,7 +71,7 @@ all_viable limit taken viable = nearly limit taken [] taken (sym (append-nil tak
 -- ---- a fault in a piece
 
 module _ {A R : Type 0} (has_heard : R → List (Event A) → Type 0) (line : Lines A) (bytes piece : List ℕ) (reporter : R) (source sink : Channel)
-    (short : length piece ≤ piece_size) (good : source.failed ≡ false) (viable : IsViable A chain_limit bytes) where
+    (short : length piece ≤ long_piece) (good : source.failed ≡ false) (viable : IsViable A chain_limit bytes) where
   front : (k : ℕ) → bytes ++ take k piece ≡ take (length bytes + k) (bytes ++ piece)
   front k = sym (take-append-add bytes piece k)
 

@@ -15,16 +15,16 @@ use Rattle.fit_report.specs.declared.fault.ReportFault.TheVariants as report
 use Rattle.fit_report.specs.Heard.{Lines, text_of}
 
 -- the most bytes that a report takes at once: a piece
-abbrev pub piece_size : ℕ
-piece_size = 65536
+abbrev pub long_piece : ℕ
+long_piece = 65536
 
 -- At most a piece was taken from this place on.
 abbrev pub IsInPiece : List ℕ → ℕ → Type 0
-IsInPiece taken place = length taken ≤ place + piece_size
+IsInPiece taken place = length taken ≤ place + long_piece
 
 -- Some files of at most that many begin with these bytes, but for a last piece.
 abbrev pub IsNearlyViable : Type 0 → ℕ → List ℕ → Type 0
-IsNearlyViable A limit taken = (k : ℕ) × (k ≤ length taken) × (length taken ≤ k + piece_size) × IsViable A limit (take k taken)
+IsNearlyViable A limit taken = (k : ℕ) × (k ≤ length taken) × (length taken ≤ k + long_piece) × IsViable A limit (take k taken)
 
 -- The fault that ended the reading of a chain of at most that many files, after these bytes were taken.
 abbrev pub Faults : Type 0 → ℕ → List ℕ → Channel → Fault → Type 0

@@ -10,9 +10,9 @@ use Rattle.fit_chain.specs.declared.event.Fault.TheVariants.{Refused, Truncated,
 use Rattle.fit_chain.specs.Checks.{AreChain}
 use Rattle.fit_chain.specs.Events.{Event, AreEvents}
 use Rattle.fit_chain.specs.Memory.{IsAny}
-use Rattle.fit_decode.specs.Reads.{IsInPiece, IsNearlyViable, WantsMemory}
+use Rattle.fit_decode.specs.Reads.{WantsMemory}
 use Rattle.fit_report.specs.Heard.{Lines, text_of}
-use Rattle.fit_report.specs.Reports.{Channel, Faults, before_fault}
+use Rattle.fit_report.specs.Reports.{Channel, IsInPiece, IsNearlyViable, Faults, before_fault}
 use Rattle.fit_csv.specs.declared.fault.CsvFault.{CsvFault}
 use Rattle.fit_csv.specs.declared.fault.CsvFault.TheVariants as csv
 use Rattle.fit_rows.specs.ChainRows.{rows_of}
