@@ -1,5 +1,5 @@
 /* Tests of the memory that the streams of gazhdor.h keep between pieces: held FILE.. Each FILE is fed in pieces of 64 KB to a stream of each
- * kind, whose text is freed after each piece. Then no more than 160,000 bytes are held, however long the texts were, and none once the stream
+ * kind, whose text is freed after each piece. Then no more than 100,000 bytes are held, however long the texts were, and none once the stream
  * is closed. So is a file of messages of one byte each, of which the rows are 275,163 bytes: there what stands around the values of one
  * message is kept, and no more. Bytes are counted: link with --wrap=malloc, realloc and free. */
 #include "gazhdor.h"
@@ -46,7 +46,7 @@ void __wrap_free(void *block)
         }                                                                           \
     } while (0)
 
-enum { KINDS = 5, PIECE = 65536, MOST = 160000, HOSTILE = 1000000 };
+enum { KINDS = 5, PIECE = 65536, MOST = 100000, HOSTILE = 1000000 };
 
 /* Feeds all of it in pieces of that size. Returns how many bytes the greatest text of a piece had. */
 static size_t fed(uint32_t kind, const char *name, const uint8_t *bytes, size_t length, size_t size, size_t most)

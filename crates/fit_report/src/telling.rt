@@ -22,11 +22,10 @@ use std::marker::Model;
 
 /// The memory of text that is kept from piece to piece, in bytes. A message of one byte may have a text of 275,163 bytes, so a piece
 /// may make any number of megabytes.
-const KEPT_TEXT: usize = 65_536;
+const KEPT_TEXT: usize = 4_096;
 
-/// What is skipped is put as soon as its text has that many bytes: a vector that grows takes twice its length at most, so the memory
-/// for texts that are no longer than this is kept.
-const FULL_TEXT: usize = KEPT_TEXT / 2;
+/// What is skipped is put as soon as its text has that many bytes.
+const FULL_TEXT: usize = 32_768;
 
 /// What tells the events of a chain's bytes to a reporter as they come, in pieces of any length, and puts its text in a sink. It
 /// is the same reporter in each call, and has heard nothing at first; the sink may be another one in each call.
@@ -158,7 +157,7 @@ fn put_text<K: Sink>(sink: &mut K, text: &[u8], written: &mut u64) -> Result<(),
 
 /// Lets the memory of a text go, where it is more than what is kept.
 fn let_go(text: &mut Vec<u8>)
-    ensures { vec_capacity text.new ≤ 65536 }
+    ensures { vec_capacity text.new ≤ 4096 }
 {
     if text.capacity() > KEPT_TEXT {
         text.clear();

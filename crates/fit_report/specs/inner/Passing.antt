@@ -20,7 +20,7 @@ Puts text sink old new (Err fault) = ⊥
 -- The bytes fed begin a chain, and that many bytes of memory at most are kept for texts.
 pub record IsSoundTelling (bytes : List ℕ) (room : ℕ) : Type 0 where
   pub viable : IsViable Global chain_limit bytes
-  pub bounded : room ≤ 65536
+  pub bounded : room ≤ 4096
 
 -- A report has come to a place: all bytes up to there were taken from a source and told in a sink, which began so.
 pub record HasComeTo {R : Type 0} (has_heard : R → List (Event Global) → Type 0) (line : Lines Global) (reporter : R) (telling : ToldSoFar) (place : ℕ)
