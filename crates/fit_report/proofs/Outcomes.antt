@@ -50,7 +50,8 @@ comes_to_nothing has_heard line reporter telling begin start fresh has =
 pub after_first : {R : Type 0} {has_heard : R → List (Event Global) → Type 0} {line : Lines Global} {reporter : R} {telling : ToldSoFar} (n : ℕ)
     {begin source start sink : Option (List ℕ)} → HasComeTo has_heard line reporter telling (0 + n) begin source start sink
     → HasComeTo has_heard line reporter telling n begin source start sink
-after_first {has_heard = has_heard} {line = line} {reporter = reporter} {telling = telling} n {begin = begin} {source = source} {start = start} {sink = sink} come =
+after_first {has_heard = has_heard} {line = line} {reporter = reporter} {telling = telling} n {begin = begin} {source = source}
+    {start = start} {sink = sink} come =
     let same : 0 + n ≡ n = omega arith in
     subst (λ k. HasComeTo has_heard line reporter telling k begin source start sink) same come
 
