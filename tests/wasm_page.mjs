@@ -5,7 +5,7 @@
 import assert from "node:assert/strict"
 import { existsSync, readFileSync, writeFileSync } from "node:fs"
 import { createServer } from "node:http"
-import { basename, join, resolve } from "node:path"
+import { basename, extname, join, resolve } from "node:path"
 import { pathToFileURL } from "node:url"
 import { open } from "../js/gazhdor.mjs"
 import { Browser, Page } from "./wasm_browser.mjs"
@@ -158,6 +158,32 @@ async function seeNetwork() {
     assert.deepEqual([alone, heard], [0, 1])
 }
 
+/* The package as a site has it: loaded by fetch, in the page and in a Worker. */
+async function seeServed() {
+    const types = { ".mjs": "text/javascript", ".wasm": "application/wasm", ".fit": "application/octet-stream" }
+    const server = createServer(({ url }, response) => {
+        const path = url.endsWith("/ride.fit") ? "examples/ride.fit" : `js${url}`
+        if (url === "/") response.writeHead(200, { "content-type": "text/html" }).end("<body data-state=ready>")
+        else if (/^[\w/.]+$/.test(path) && existsSync(path)) response.writeHead(200, { "content-type": types[extname(path)] }).end(readFileSync(path))
+        else response.writeHead(404).end()
+    })
+    await new Promise(listening => server.listen(0, "127.0.0.1", listening))
+    const page = await Page.open(browser, `http://127.0.0.1:${server.address().port}/`)
+    const told = await page.value(`(async () => {
+        const { open, Refused } = await import("/gazhdor.mjs"), bytes = await (await fetch("/ride.fit")).arrayBuffer()
+        const gazhdor = await open(), told = [String(gazhdor.check(bytes)), gazhdor.columns(bytes, "record", ["altitude"]).altitude.length]
+        let count = 0
+        for await (const message of (await fetch("/ride.fit")).body.pipeThrough(gazhdor.stream("messages"))) count++
+        told.push(count, await open("/none.wasm").catch(error => error.message.replace(/http.*none/, "none")))
+        const worker = new Worker("/worker.mjs", { type: "module" }), answer = new Promise(done => { worker.onmessage = ({ data }) => done(data) })
+        worker.postMessage({ number: 7, call: "messages", words: [bytes, { only: "lap" }] })
+        const { number, made } = await answer
+        return [...told, number, made[0].fields.total_distance, made[0].time.toISOString()]
+    })()`)
+    server.close()
+    assert.deepEqual(told, ["ok", 144, 149, "gazhdor: none.wasm: 404 Not Found", 7, 8558.46, "2026-05-17T07:30:00.000Z"])
+}
+
 try {
     if (files.length) for (const path of files) await pictures(path)
     else {
@@ -166,6 +192,7 @@ try {
         await holds("hostile files", seeHostile)
         await holds("a phone's width", seePhone)
         await holds("nothing goes to a network", seeNetwork)
+        await holds("the package on a site", seeServed)
         done("tests/wasm, page")
     }
 } finally {

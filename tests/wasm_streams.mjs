@@ -61,7 +61,8 @@ await holds("what isn't a stream, or isn't open", () => {
 })
 
 await holds("many streams by turns", () => {
-    const below = random(7), kinds = Object.keys(TEXTS), all = Array.from({ length: 40 }, (_, k) => ({ kind: kinds[k % 3], stream: new Stream(gazhdor, kinds[k % 3]), at: 0, text: "" }))
+    const below = random(7), kinds = Array.from({ length: 40 }, (_, k) => Object.keys(TEXTS)[k % 3])
+    const all = kinds.map(kind => ({ kind, stream: new Stream(gazhdor, kind), at: 0, text: "" }))
     while (all.some(one => one.at < RIDE.length)) {
         const one = all[below(all.length)], end = Math.min(RIDE.length, one.at + below(400))
         one.text += one.stream.feed(RIDE.subarray(one.at, end))
@@ -162,9 +163,12 @@ async function asked(requests) {
 }
 
 await holds("the Worker", async () => {
-    const requests = [["check", RIDE], ["check", CUT], ["columns", RIDE, "record", ["altitude"]], ["messages", RIDE, { only: "lap" }], ["tableText", RIDE], ["table", RIDE], ["mend", CUT],
-        ["toCsv", CUT], ["fromCsv", gazhdor.toCsv(RIDE)], ["constructor", RIDE], ["check", 5]]
-    const answers = await asked(requests), [good, short, columns, laps, text, rows, mended, fault, bytes, none, five] = answers.map(answer => answer.made ?? answer.error)
+    const requests = [
+        ["check", RIDE], ["check", CUT], ["columns", RIDE, "record", ["altitude"]], ["messages", RIDE, { only: "lap" }], ["tableText", RIDE],
+        ["table", RIDE], ["mend", CUT], ["toCsv", CUT], ["fromCsv", gazhdor.toCsv(RIDE)], ["constructor", RIDE], ["check", 5],
+    ]
+    const answers = await asked(requests)
+    const [good, short, columns, laps, text, rows, mended, fault, bytes, none, five] = answers.map(answer => answer.made ?? answer.error)
     assert.deepEqual(answers.map(({ number }) => number), requests.map((_, k) => k))
     assert.deepEqual([good.text, good.files, short.text, short.place], ["ok", 1, "truncated at byte 2500", 2500])
     assert.deepEqual(columns.altitude, gazhdor.columns(RIDE, "record", ["altitude"]).altitude)

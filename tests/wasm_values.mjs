@@ -4,7 +4,8 @@ import assert from "node:assert/strict"
 import { existsSync, readFileSync } from "node:fs"
 import { basename } from "node:path"
 import { FitError, OutOfMemory, REASONS, Refused, TextRefused, TooManyCells, Truncated } from "../js/src/answers.mjs"
-import { degrees, open, when } from "../js/gazhdor.mjs"
+import { Stream, degrees, open, when } from "../js/gazhdor.mjs"
+import { Walk } from "../js/src/messages.mjs"
 import { RIDE, bytesAt, done, holds, joined, thrown } from "./wasm_tools.mjs"
 
 const gazhdor = await open()
@@ -72,7 +73,8 @@ function seeBytes({ value, raw, baseType }, what) {
 function seeMessage(message, [, local, offset, name, time], cells) {
     const what = `${name} at ${message.place}`, { fields } = message
     assert.equal(message.name ?? `message_${message.number}`, name)
-    assert.deepEqual([String(message.local), message.timeOffset === null ? "" : String(message.timeOffset), timeText(message.headerTime)], [local, offset, time], what)
+    const told = [String(message.local), message.timeOffset === null ? "" : String(message.timeOffset), timeText(message.headerTime)]
+    assert.deepEqual(told, [local, offset, time], what)
     assert.equal(fields.length, cells.length, what)
     fields.forEach((field, k) => {
         const [kind, label, cell, unit] = cells[k]
@@ -109,11 +111,13 @@ await holds("rows are those of the table", () => {
         rows.forEach((row, k) => {
             assert.deepEqual(Object.keys(row), head.split(","))
             const cells = lines[k].split(",")
-            Object.values(row).forEach((value, at) => assert.equal(at === 1 ? timeText(value) : value ?? "", at === 1 || cells[at] === "" ? cells[at] : Number(cells[at])))
+            const wanted = cells.map((cell, at) => (at === 1 || cell === "" ? cell : Number(cell)))
+            assert.deepEqual(Object.values(row).map((value, at) => (at === 1 ? timeText(value) : value ?? "")), wanted)
         })
     }
 })
 
+const numberOf = value => (value === null ? NaN : Number(value))
 const sameNumber = (one, other) => (Number.isNaN(one) ? Number.isNaN(other) : one === other)
 
 await holds("columns are the values of the messages", () => {
@@ -128,8 +132,8 @@ await holds("columns are the values of the messages", () => {
                 assert.equal(column.length, of.length)
                 of.forEach((message, k) => {
                     const value = label === "timestamp" ? (message.time instanceof Date ? message.time.getTime() : null) : message.get(label) ?? null
-                    if (column instanceof Float64Array) assert.ok(sameNumber(column[k], value === null ? NaN : Number(value)), `${file}: ${label} of ${number}, message ${k}`)
-                    else assert.deepEqual(column[k], value)
+                    if (!(column instanceof Float64Array)) assert.deepEqual(column[k], value)
+                    else assert.ok(sameNumber(column[k], numberOf(value)), `${file}: ${label} of ${number}, message ${k}`)
                 })
             }
         }
@@ -138,13 +142,16 @@ await holds("columns are the values of the messages", () => {
 
 await holds("columns of what a message tells of itself", () => {
     for (const [, bytes] of files) {
-        const names = { ".file": "file", ".place": "place", ".local": "local", ".seconds": "seconds", ".speed": "speed", ".distance": "distance", ".total_cycles": "totalCycles",
-            ".accumulated_power": "accumulatedPower" }
+        const names = {
+            ".file": "file", ".place": "place", ".local": "local", ".seconds": "seconds", ".speed": "speed", ".distance": "distance",
+            ".total_cycles": "totalCycles", ".accumulated_power": "accumulatedPower",
+        }
         const columns = gazhdor.columns(bytes, "record", [...Object.keys(names), ".latitude", ".longitude", ".time", "no such field"])
         let k = 0
         for (const message of gazhdor.messages(bytes, { only: 20 })) {
-            for (const [label, name] of Object.entries(names)) assert.ok(sameNumber(columns[label][k], message[name] === null ? NaN : Number(message[name])), `${label} ${k}`)
-            if (message.position !== null) assert.deepEqual([columns[".latitude"][k], columns[".longitude"][k]], [message.position.latitude, message.position.longitude])
+            for (const [label, name] of Object.entries(names)) assert.ok(sameNumber(columns[label][k], numberOf(message[name])), `${label} ${k}`)
+            const { latitude, longitude } = message.position ?? { latitude: NaN, longitude: NaN }
+            assert.deepEqual([columns[".latitude"][k], columns[".longitude"][k]], [latitude, longitude])
             assert.ok(sameNumber(columns[".time"][k], message.time instanceof Date ? message.time.getTime() : NaN))
             assert.ok(Number.isNaN(columns["no such field"][k]))
             k++
@@ -188,8 +195,9 @@ field,speed,0x40A00000,m/s,,,
 ${names.map((name, k) => `dev,${name},${k + 1},,,,\n`).join("")}end,,,,,,
 `
     const [, , , , , message] = gazhdor.messages(gazhdor.fromCsv(text))
-    assert.deepEqual(Object.keys(message.toObject()).sort(), ["__proto__", "altitude", "dev_0_0", "dev_0_1", "dev_0_2", "dev_0_4", "field_200", "heart_rate", "speed", "timestamp"].sort())
-    assert.deepEqual([message.get("timestamp"), message.get("heart_rate"), message.get([0, 4]), message.get("field_3"), message.get(3)], [1000000000, 120, 5, 2, 120])
+    const labels = ["__proto__", "altitude", "dev_0_0", "dev_0_1", "dev_0_2", "dev_0_4", "field_200", "heart_rate", "speed", "timestamp"]
+    assert.deepEqual(Object.keys(message.toObject()).sort(), labels)
+    assert.deepEqual(["timestamp", "heart_rate", [0, 4], "field_3", 3].map(key => message.get(key)), [1000000000, 120, 5, 2, 120])
     assert.equal(message.get("__proto__"), 4)
     assert.equal(message.get("field_200"), -9007199254740993n)
     // (9007199254740992 + 2500) / 5 - 500, whose nearest number has the text of the cell
@@ -204,7 +212,8 @@ ${names.map((name, k) => `dev,${name},${k + 1},,,,\n`).join("")}end,,,,,,
 await holds("names, units, times and what isn't there", () => {
     const [first] = gazhdor.messages(RIDE, { only: "record" })
     assert.deepEqual([first.name, first.number, first.local, first.file], ["record", 20, 5, 1])
-    assert.deepEqual([first.unit("altitude"), first.get("altitude"), first.has("power"), first.get("power"), first.unit("power"), first.field("power")], ["m", 408, false, undefined, undefined, undefined])
+    assert.deepEqual([first.unit("altitude"), first.get("altitude"), first.has("altitude")], ["m", 408, true])
+    assert.deepEqual([first.unit("power"), first.get("power"), first.has("power"), first.field("power")], [undefined, undefined, false, undefined])
     assert.equal(first.time.toISOString(), "2026-05-17T07:30:00.000Z")
     assert.ok(Math.abs(first.position.latitude - 47.3) < 1e-7 && Math.abs(first.position.longitude - 8.568) < 1e-7)
     assert.deepEqual(first.values("altitude"), [408])
@@ -212,15 +221,17 @@ await holds("names, units, times and what isn't there", () => {
     assert.equal(String(first.field("altitude")), "altitude=408 m")
     assert.deepEqual([...new Map(first).keys()], first.fields.map(field => field.name))
     assert.equal(degrees(2 ** 30), 90)
-    assert.deepEqual([when(0), when(268435455), when(268435456).toISOString(), when(null), when(undefined)], ["system+0", "system+268435455", "1998-07-03T21:24:16.000Z", null, null])
+    assert.deepEqual([when(0), when(268435455), when(null), when(undefined)], ["system+0", "system+268435455", null, null])
+    assert.equal(when(268435456).toISOString(), "1998-07-03T21:24:16.000Z")
     thrown(TypeError, () => first.get({}))
     thrown(TypeError, () => when("1"))
 })
 
 await holds("only some messages", () => {
     const all = [...gazhdor.messages(RIDE)]
+    const placesOf = messages => messages.map(({ place }) => place)
     for (const [only, wanted] of [["lap", ["lap"]], [20, ["record"]], [["lap", 20], ["lap", "record"]], [new Set(["no such"]), []], [[], []]])
-        assert.deepEqual([...gazhdor.messages(RIDE, { only })].map(({ place }) => place), all.filter(({ name }) => wanted.includes(name)).map(({ place }) => place))
+        assert.deepEqual(placesOf([...gazhdor.messages(RIDE, { only })]), placesOf(all.filter(({ name }) => wanted.includes(name))))
     for (const only of [{}, [null], true, [["lap"]]]) thrown(TypeError, () => gazhdor.messages(RIDE, { only }))
 })
 
@@ -268,6 +279,13 @@ await holds("a mended file has all records before the fault", () => {
     assert.equal(thrown(Refused, () => gazhdor.mend(new TextEncoder().encode("<gpx></gpx>"))).reason, "Protocol")
 })
 
+await holds("a message of a definition that didn't come is none", () => {
+    const blocks = new Stream(gazhdor, "blocks").feed(RIDE), view = new DataView(blocks.buffer)
+    assert.equal(new Walk().messages(blocks).length, 149)
+    for (let at = 0; at < blocks.length; at += view.getUint32(at, true)) if (blocks[at + 4] === 3) view.setBigUint64(at + 24, 1000n, true)
+    assert.throws(() => new Walk().messages(blocks), /without its definition/)
+})
+
 await holds("reasons in words are those of the table", () => {
     const lines = existsSync("profile/reasons.tsv") ? readFileSync("profile/reasons.tsv", "utf8").trimEnd().split("\n").slice(1) : []
     for (const line of lines) assert.equal(REASONS[line.split("\t")[0]], line.split("\t")[1])
@@ -280,14 +298,16 @@ await holds("what may be given as bytes", () => {
     new Uint8Array(room, 5).set(RIDE.subarray(0, RIDE.length))
     class Long extends Uint8Array { get length() { return 2 ** 31 } get byteLength() { return 2 ** 31 } get byteOffset() { return 2 ** 20 } }
     class Short extends Uint8Array { get length() { return 0 } get byteLength() { return 0 } slice() { return [] } }
-    const sources = [RIDE, RIDE.buffer.slice(RIDE.byteOffset, RIDE.byteOffset + RIDE.length), shared, Buffer.from(RIDE), new DataView(room, 5, RIDE.length), new Uint8Array(room, 5, RIDE.length),
-        new Long(RIDE), new Short(RIDE), new Uint8Array(shared)]
+    const sources = [
+        RIDE, Uint8Array.from(RIDE).buffer, shared, Buffer.from(RIDE), new DataView(room, 5, RIDE.length), new Uint8Array(room, 5, RIDE.length),
+        new Long(RIDE), new Short(RIDE), new Uint8Array(shared),
+    ]
     for (const source of sources) {
         assert.equal(`${gazhdor.check(source)}`, "ok")
         assert.equal(gazhdor.tableText(source), gazhdor.tableText(RIDE))
     }
-    for (const source of [null, undefined, 5, "ride.fit", [1, 2], {}, { buffer: room, byteLength: 9, byteOffset: 0 }, new Proxy(RIDE, {}), Promise.resolve(RIDE)])
-        thrown(TypeError, () => gazhdor.check(source))
+    const none = [null, undefined, 5, "ride.fit", [1, 2], {}, { buffer: room, byteLength: 9, byteOffset: 0 }, new Proxy(RIDE, {}), Promise.resolve(RIDE)]
+    for (const source of none) thrown(TypeError, () => gazhdor.check(source))
     const gone = new Uint8Array(room)
     structuredClone(room, { transfer: [room] })
     thrown(TypeError, () => gazhdor.check(gone))
