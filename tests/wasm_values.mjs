@@ -150,8 +150,9 @@ await holds("columns of what a message tells of itself", () => {
         let k = 0
         for (const message of gazhdor.messages(bytes, { only: 20 })) {
             for (const [label, name] of Object.entries(names)) assert.ok(sameNumber(columns[label][k], numberOf(message[name])), `${label} ${k}`)
-            const { latitude, longitude } = message.position ?? { latitude: NaN, longitude: NaN }
-            assert.deepEqual([columns[".latitude"][k], columns[".longitude"][k]], [latitude, longitude])
+            const there = { latitude: columns[".latitude"][k], longitude: columns[".longitude"][k] }
+            if (message.position !== null) assert.deepEqual(there, message.position)
+            else assert.ok(Number.isNaN(there.latitude + there.longitude))
             assert.ok(sameNumber(columns[".time"][k], message.time instanceof Date ? message.time.getTime() : NaN))
             assert.ok(Number.isNaN(columns["no such field"][k]))
             k++
