@@ -72,5 +72,5 @@ returns-clause-reports g c =
     let some : 0 < c.in_ok-first.first = omega (arith, c.if-first-eq0.false) in
     let more : 0 < c.in_ok-second.second = omega (arith, c.if-second-eq0.false) in
     c.tell_rest.ensures.reports begin start (c.in_ok-second.ensures.tells.1 more begin start
-      (after_first c.in_ok-first.first (c.in_ok-first.ensures.tells.1 some begin start
+    (after_first c.in_ok-first.first (c.in_ok-first.ensures.tells.1 some begin start
     (comes_to_nothing g.R.Report.has_heard g.R.Report.line c.args.reporter.now c.args.telling.now begin start c.requires.fresh c.requires.heard))))
