@@ -1,5 +1,5 @@
 //! Rows of data messages.
-ghost use Rattle.std.specs.Prelude.{◌≡◌, ◌<◌, codes, decimal, IfErr, IfOk, IsSome};
+ghost use Rattle.std.specs.Prelude.{◌≡◌, ◌<◌, ◌≤◌, codes, decimal, IfErr, IfOk, IsSome};
 ghost use Rattle.fit_profile.specs.Looks.{known};
 ghost use Rattle.fit_record.specs.Environment.{defined_at};
 ghost use Rattle.fit_csv.specs.inner.Misfits.{IsMessageOrEnd, IsMessageRow, IsMessageStart, IsCellFault, global_at, message_row};
@@ -26,9 +26,11 @@ fn global_at(before: &Stream, local: u8) -> u16
 }
 
 /// How many fields the messages of a local message type have.
-fn field_count(before: &Stream, local: u8) -> usize {
-    match before.env().definition(local) {
-        Some(definition) => definition.fields.len(),
+fn field_count(before: &Stream, local: u8) -> usize
+    ensures few { result ≤ 255 }
+{
+    match before.env().defined(local) {
+        Some(defined) => defined.definition.fields.len(),
         None => 0,
     }
 }
