@@ -13,6 +13,8 @@ import tracemalloc
 import unittest
 
 import gazhdor
+from gazhdor._library import library, text_of
+from gazhdor._streams import each
 from python_fits import *
 
 RIDE = "examples/ride.fit"
@@ -64,6 +66,13 @@ def fed(kind, pieces, **how):
     if kind == "messages":
         return told(itertools.chain(*made)), finding, stream.files if finding == "ok" else 0, count
     return type(made[0])().join(made), finding, stream.files if finding == "ok" else 0, count
+
+
+def blocks_of(source):
+    try:
+        yield from each("blocks", source, partial=True)
+    except gazhdor.FitError:
+        pass
 
 
 def bytes_alone(data):
@@ -132,6 +141,15 @@ class Streams(unittest.TestCase):
             kinds.append(blocks[at + 4])
             at += int.from_bytes(blocks[at : at + 4], "little")
         self.assertEqual((kinds, at), ([1, 2, 3, 2, 3, 4, 1, 2, 2, 3, 3, 3, 2, 3, 4], len(blocks)))
+
+    def test_blocks_of_all_bytes(self):
+        """In pieces, and of a file object or of bytes, they are those of the library's call on all bytes."""
+        r = random.Random(20260130)
+        for data in (*KNOWN.values(), BYTES, 3 * BYTES, BYTES[:2000], *(any_file(r) for _ in range(10))):
+            whole = text_of(library.gazhdor_messages, data)[1]
+            self.assertEqual(fed("blocks", [data[at : at + 100] for at in range(0, len(data), 100)])[0], whole)
+            for source in (data, io.BytesIO(data)):
+                self.assertEqual(b"".join(blocks_of(source)), whole)
 
     def test_files(self):
         stream, found = gazhdor.Stream("check"), []
