@@ -101,9 +101,12 @@ class Columns(unittest.TestCase):
         r = random.Random(20260102)
         for _ in range(20):
             source = b"".join(any_file(r) for _ in range(3))
-            messages = list(gazhdor.messages(source, only="record"))
-            for key, column in gazhdor.lists(source, "record").items():
-                self.assertEqual(repr(column), repr(self.wanted(messages, key)))
+            for kind in ("record", 18, 0, 65280):
+                messages, with_times = list(gazhdor.messages(source, only=kind)), gazhdor.lists(source, kind, times=True)
+                for key, column in gazhdor.lists(source, kind).items():
+                    wanted = self.wanted(messages, key)
+                    self.assertEqual(repr(column), repr(wanted))
+                    self.assertEqual(repr(with_times[key]), repr([message.times.get(key, value) for message, value in zip(messages, wanted)]))
 
     def test_wrong_words(self):
         for message, fields in ((None, None), (["record"], None), ("record", "heart_rate"), ("record", 3)):
