@@ -106,7 +106,9 @@ class Columns(unittest.TestCase):
                 for key, column in gazhdor.lists(source, kind).items():
                     wanted = self.wanted(messages, key)
                     self.assertEqual(repr(column), repr(wanted))
-                    self.assertEqual(repr(with_times[key]), repr([message.times.get(key, value) for message, value in zip(messages, wanted)]))
+                    if key != "timestamp":  # which is a time in any case
+                        wanted = [message.times.get(key, value) for message, value in zip(messages, wanted)]
+                    self.assertEqual(repr(with_times[key]), repr(wanted))
 
     def test_wrong_words(self):
         for message, fields in ((None, None), (["record"], None), ("record", "heart_rate"), ("record", 3)):
