@@ -238,11 +238,11 @@ class Table:
         if self._asked.fields is None:
             self._keys.update(dict.fromkeys(_own_keys(definition)))
             self._has_times = self._has_times or 253 in definition.by_key or part.has_times
-            keys = [TIME, *definition.by_key]
+            keys = dict.fromkeys([TIME, *definition.by_key])
         made: Dict[Tuple[int, str], Values] = {}
         for key in keys:
             cell = _cell(definition, key, self._asked.times)
-            if cell is None or (key == TIME and self._asked.fields is None and cell.form != DATE):
+            if cell is None:
                 continue
             known = id(cell.entry), cell.form
             if known not in made:
