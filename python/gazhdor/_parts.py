@@ -63,10 +63,10 @@ def _own_keys(definition: Definition) -> List[Key]:
 class Part:
     """Some messages of one definition: their blocks, how many messages come before each run of them, and how many are in it."""
 
-    __slots__ = ("definition", "length", "blocks", "before", "counts", "view", "messages", "_where")
+    __slots__ = ("length", "blocks", "before", "counts", "view", "messages", "_where")
 
-    def __init__(self, definition: Definition, length: int) -> None:
-        self.definition, self.length = definition, length
+    def __init__(self, length: int) -> None:
+        self.length = length
         self.blocks: List[bytes] = []
         self.before: List[int] = []
         self.counts: List[int] = []
@@ -172,15 +172,15 @@ def _up_to_fault(parts: Iterator[bytes], partial: bool) -> Iterator[bytes]:
             raise
 
 
-def _parts(source: Source, message: Kind, partial: bool, names: Optional[Names]) -> Iterator[Part]:
+def _parts(source: Source, message: Kind, partial: bool, names: Optional[Names]) -> Iterator[Tuple[Definition, Part]]:
     if not isinstance(message, (str, int)):
         raise TypeError(f"a message is named by its name or its number, and not by {type(message).__name__}")
-    walk, taken, size, row = Walk(message, names), {}, 0, 0  # type: Walk, Dict[int, Part], int, int
+    walk, taken, size, row = Walk(message, names), {}, 0, 0  # type: Walk, Dict[int, Tuple[Definition, Part]], int, int
     for blocks in _up_to_fault(each("blocks", source, partial, ahead=False), partial):
         for definition, first, messages, length in walk.runs(blocks):
-            part = taken.get(id(definition))
-            if part is None:
-                part = taken[id(definition)] = Part(definition, length)
+            if id(definition) not in taken:
+                taken[id(definition)] = definition, Part(length)
+            part = taken[id(definition)][1]
             part.blocks.append(blocks[first : first + messages * length])
             part.before.append(row)
             part.counts.append(messages)
@@ -215,12 +215,15 @@ class Table:
         self._keys: Dict[Key, None] = dict.fromkeys(asked.fields or [])
         self._has_times = False
         self._first: List[Definition] = []
+        # The numbers of developer fields by their names; and of all cells that are told alike one, as there may be many definitions.
+        self._developer: Dict[Key, Key] = {}
+        self._alike: Dict[Any, Cell] = {}
 
     def read(self, source: Source, partial: bool) -> None:
         asked = self._asked
-        for part in _parts(source, asked.message, partial, asked.names):
+        for definition, part in _parts(source, asked.message, partial, asked.names):
             part.join()
-            self._add(part)
+            self._add(definition, part)
             part.drop()
         if asked.fields is not None:
             see_fields(asked.message, [key for key in self._keys if key not in self._found], self._first, _ATTRIBUTES, asked.names)
@@ -229,8 +232,7 @@ class Table:
         if cells > _FEW_CELLS and cells > _MOST_EMPTY * self._filled:
             raise TooManyCells(len(self.keys), self.rows)
 
-    def _add(self, part: Part) -> None:
-        definition = part.definition
+    def _add(self, definition: Definition, part: Part) -> None:
         self.rows += part.messages
         if len(self._first) < _FEW_DEFINITIONS:
             self._first.append(definition)
@@ -247,8 +249,15 @@ class Table:
             known = id(cell.entry), cell.form
             if known not in made:
                 made[known] = self._take(part, cell)
-            self._found.setdefault(key, []).append((part, cell, made[known]))
+            self._found.setdefault(key, []).append((part, self._like(key, cell), made[known]))
         self._filled += len(made) * part.messages
+
+    def _like(self, key: Key, cell: Cell) -> Cell:
+        """A cell that is told as this one."""
+        entry = cell.entry
+        if entry.index is not None and isinstance(key, str):
+            self._developer.setdefault(key, entry.key)
+        return self._alike.setdefault((entry.kind, entry.width, entry.is_number, entry.scale, entry.offset, entry.invalid, cell.form), cell)
 
     @property
     def keys(self) -> List[Key]:
@@ -258,9 +267,7 @@ class Table:
 
     def developer(self, key: Key) -> Optional[Key]:
         """The numbers of the developer field that a column has a name of, or None."""
-        pieces = self._found.get(key, [])
-        entry = pieces[0][1].entry if pieces and isinstance(key, str) else None
-        return entry.key if entry and entry.index is not None else None
+        return self._developer.get(key)
 
     def pieces(self, key: Key) -> List[Piece]:
         """What a column is put together of. It is forgotten here."""
