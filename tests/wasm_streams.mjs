@@ -134,6 +134,18 @@ await holds("no more is sent after a byte that is refused", async () => {
     assert.ok(fault instanceof Refused && cancelled === fault && sent <= 3, `${sent}`)
 })
 
+await holds("bytes wait for who reads", async () => {
+    let sent = 0
+    const upload = new ReadableStream({ pull(controller) { sent++; controller.enqueue(RIDE) } })
+    const reader = upload.pipeThrough(gazhdor.stream("messages")).getReader()
+    for (let k = 0; k < 3; k++) {
+        await reader.read()
+        await new Promise(wait => setTimeout(wait, 20))
+    }
+    assert.ok(sent <= 4, `${sent} pieces were sent for three messages`)
+    await reader.cancel()
+})
+
 await holds("who reads no more, and bytes that break off", async () => {
     const pair = gazhdor.stream("messages"), writer = pair.writable.getWriter(), reader = pair.readable.getReader()
     writer.write(RIDE).catch(() => {})

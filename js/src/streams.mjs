@@ -6,8 +6,12 @@ import { bytesOf } from "./sources.mjs"
 
 const KINDS = { check: 0, show: 1, table: 2, toCsv: 3, blocks: 4, messages: 4 }
 
-/* A stream that nobody closed is closed once nothing uses it any more. */
-const forgotten = new FinalizationRegistry(({ core, at }) => core.close(at))
+/* A stream that nobody closed is closed once nothing uses it any more. Where the module traps there, the next call says so. */
+const forgotten = new FinalizationRegistry(({ core, at }) => {
+    try {
+        core.close(at)
+    } catch {}
+})
 
 /* A stream of the library, of one of its kinds. */
 export class Pipe {
