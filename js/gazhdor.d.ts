@@ -70,7 +70,7 @@ export class Truncated extends FitError {
 export class TextRefused extends FitError {}
 /** The engine gave no more memory, to the module or for what it made. This says nothing of the bytes. */
 export class OutOfMemory extends RangeError {}
-/** The columns would have more cells than are made at once. */
+/** Nearly all of very many cells of the columns of all fields would be empty: name the fields. */
 export class TooManyCells extends RangeError {}
 /** The module stopped within a call, which it never should: each later call says the same, and `open` gives another. */
 export class Trapped extends Error {}

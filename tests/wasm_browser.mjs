@@ -13,7 +13,7 @@ export class Browser {
 
     constructor(program) {
         const words = ["--headless", "--remote-debugging-pipe", "--disable-gpu", "--no-first-run", "--disable-dev-shm-usage"]
-        words.push(`--user-data-dir=${this.#profile}`)
+        words.push("--disable-background-networking", "--disable-component-update", "--disable-sync", `--user-data-dir=${this.#profile}`)
         if (process.getuid() === 0) words.push("--no-sandbox")
         this.#child = spawn(program, [...words, "about:blank"], { stdio: ["ignore", "ignore", "ignore", "pipe", "pipe"] })
         let rest = ""

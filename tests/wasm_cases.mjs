@@ -57,6 +57,20 @@ await holds("no call keeps memory", () => {
     assert.equal(core.size, size)
 })
 
+await holds("no stream within a call stays open", async () => {
+    const gazhdor = await open(MODULE), many = joined(Array(100).fill(RIDE)), cut = many.subarray(0, -9)
+    const calls = [
+        () => gazhdor.check(many), () => gazhdor.columns(cut, "lap", ["timestamp"], { partial: true }), () => gazhdor.mend(RIDE.subarray(0, 3000)),
+        () => { for (const message of gazhdor.messages(many, { only: "lap", partial: true })) if (message.file > 1) break },
+    ]
+    for (const call of calls) {
+        call()
+        const size = gazhdor.size
+        for (let k = 0; k < 200; k++) call()
+        assert.equal(gazhdor.size, size, String(call))
+    }
+})
+
 /* What a stream makes of pieces, with what it says in the end. */
 function fed(call, pieces) {
     const at = core.open(NUMBERS[call]), parts = []

@@ -83,7 +83,7 @@ export class OutOfMemory extends RangeError {
     constructor(text = "out of memory") { super(`gazhdor: ${text}`) }
 }
 
-/* The columns of all fields would have more cells than are made at once: name the fields, or take the messages. */
+/* Nearly all of very many cells of the columns of all fields would be empty: name the fields, or take the messages. */
 export class TooManyCells extends RangeError {}
 
 /* The module stopped within a call, which it never should. Its memory is as it was left, so each later call says the same, and so do its

@@ -1,9 +1,11 @@
 /* Columns of messages: typed arrays, filled from blocks where they lie in the module's memory. */
-import { TooManyCells } from "./answers.mjs"
+import { OutOfMemory, TooManyCells } from "./answers.mjs"
 import { NO_TIME, SYSTEM_TIMES, degrees, milliseconds } from "./messages.mjs"
 import { FLOAT, SIGNED, UNSIGNED, labelOf, scaler } from "./values.mjs"
 
-const MOST_CELLS = 1 << 26
+/* So many cells may be there, however few of them have something, and so many times those that have. */
+const FEW_CELLS = 1 << 22
+const MOST_EMPTY = 16
 
 /* A place of a whole number in each block, whose greatest stands for no value. */
 function placed(begins, width, scale = 1) {
@@ -55,6 +57,14 @@ function invalidOf({ kind, width, invalid }) {
     return width === 8 ? BigInt.asIntN(64, invalid) : Number(BigInt.asIntN(8 * width, BigInt(invalid)))
 }
 
+function numbersOf(length) {
+    try {
+        return new Float64Array(length)
+    } catch {
+        throw new OutOfMemory(`no memory for a column of ${length} numbers`)
+    }
+}
+
 /* A column: numbers as float64, and NaN for none, until a message has a text, bytes or several numbers there; then an array of values. */
 class Column {
     #numbers = new Float64Array(256)
@@ -63,7 +73,7 @@ class Column {
 
     #grow(length) {
         if (length <= this.#numbers.length) return
-        const more = new Float64Array(Math.max(length, 2 * this.#numbers.length))
+        const more = numbersOf(Math.max(length, 2 * this.#numbers.length))
         more.set(this.#numbers.subarray(0, this.#length))
         this.#numbers = more
     }
@@ -127,6 +137,7 @@ export class Columns {
     #keys
     #parts = new Map() // of each definition what it adds to, and by which entry
     #rows = 0
+    #filled = 0 // cells of fields that have bytes
 
     constructor(fields) {
         if (typeof fields === "string" || typeof fields === "number") throw new TypeError("the fields are a list of names, and not one name")
@@ -144,13 +155,21 @@ export class Columns {
         if (runs.length === 0) return
         const views = new Views(bytes)
         for (const run of runs) {
-            for (const [column, entry] of this.#of(run.definition))
+            const rows = (run.end - run.begin) / run.length
+            for (const [column, entry] of this.#of(run.definition)) {
                 if (entry === null) column.times(views, run, this.#rows)
                 else column.take(views, run, this.#rows, entry)
-            this.#rows += (run.end - run.begin) / run.length
-            if (this.#rows * this.#columns.size > MOST_CELLS)
-                throw new TooManyCells(`${this.#columns.size} columns of ${this.#rows} messages have more than ${MOST_CELLS} cells: name fewer fields`)
+                if (entry?.count !== 0) this.#filled += rows
+            }
+            this.#rows += rows
+            this.#see()
         }
+    }
+
+    #see() {
+        const cells = this.#rows * this.#columns.size
+        if (this.#keys === null && cells > FEW_CELLS && cells > MOST_EMPTY * this.#filled)
+            throw new TooManyCells(`nearly all cells of ${this.#columns.size} columns of ${this.#rows} messages would be empty: name the fields`)
     }
 
     /* The columns to which the messages of a definition add, each with what it takes of a message, and the one of times with null. */
