@@ -72,6 +72,14 @@ export class TextRefused extends FitError {}
 export class OutOfMemory extends RangeError {}
 /** Nearly all of very many cells of the columns of all fields would be empty: name the fields. */
 export class TooManyCells extends RangeError {}
+/** A name of a message that the profile hasn't, or of a field that neither the profile nor the file has. */
+export class UnknownName extends RangeError {
+    private constructor()
+    /** The name. */
+    readonly unknown: string
+    /** The name that is most like it. */
+    readonly nearest: string | null
+}
 /** The module stopped within a call, which it never should: each later call says the same, and `open` gives another. */
 export class Trapped extends Error {}
 /** What was opened is no module of gazhdor, or one of another version. */

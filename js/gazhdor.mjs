@@ -18,6 +18,7 @@ export { Answer, FitError, OutOfMemory, Refused, TextRefused, TooManyCells, Trap
 export { VERSION } from "./src/core.mjs"
 export { Gazhdor, Stream } from "./src/library.mjs"
 export { Field, Message, degrees, when } from "./src/messages.mjs"
+export { UnknownName } from "./src/profile.mjs"
 
 async function fetched(url) {
     if (url.protocol === "file:" && globalThis.process?.versions?.node !== undefined) {

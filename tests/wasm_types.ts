@@ -1,5 +1,5 @@
 /* What a program in TypeScript may write with js/gazhdor.d.ts; the lines that must be refused say so. */
-import { Answer, Field, FitError, Gazhdor, Message, Refused, Stream, Truncated, Value, VERSION, degrees, open, when } from "./gazhdor.mjs"
+import { Answer, Field, FitError, Gazhdor, Message, Refused, Stream, Truncated, UnknownName, Value, VERSION, degrees, open, when } from "./gazhdor.mjs"
 
 async function all(bytes: Uint8Array, response: Response): Promise<void> {
     const gazhdor: Gazhdor = await open()
@@ -38,6 +38,7 @@ async function all(bytes: Uint8Array, response: Response): Promise<void> {
         gazhdor.show(made)
     } catch (error) {
         if (error instanceof Refused || error instanceof Truncated) error.place.toFixed(0)
+        if (error instanceof UnknownName) error.nearest?.trim()
         if (error instanceof FitError && error.reason === "FileSum") error.explanation.trim()
     }
     void [reason, encoded, wrong, next, when(5), degrees(5), VERSION]

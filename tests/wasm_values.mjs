@@ -4,8 +4,9 @@ import assert from "node:assert/strict"
 import { existsSync, readFileSync } from "node:fs"
 import { basename } from "node:path"
 import { FitError, REASONS, Refused, TextRefused, TooManyCells, Truncated } from "../js/src/answers.mjs"
-import { Stream, degrees, open, when } from "../js/gazhdor.mjs"
+import { Stream, UnknownName, degrees, open, when } from "../js/gazhdor.mjs"
 import { Walk } from "../js/src/messages.mjs"
+import { PROFILE } from "../js/src/profile.mjs"
 import { RIDE, bytesAt, done, holds, joined, thrown } from "./wasm_tools.mjs"
 
 const gazhdor = await open()
@@ -146,7 +147,7 @@ await holds("columns of what a message tells of itself", () => {
             ".file": "file", ".place": "place", ".local": "local", ".seconds": "seconds", ".speed": "speed", ".distance": "distance",
             ".total_cycles": "totalCycles", ".accumulated_power": "accumulatedPower",
         }
-        const columns = gazhdor.columns(bytes, "record", [...Object.keys(names), ".latitude", ".longitude", ".time", "no such field"])
+        const columns = gazhdor.columns(bytes, "record", [...Object.keys(names), ".latitude", ".longitude", ".time", "calories"])
         let k = 0
         for (const message of gazhdor.messages(bytes, { only: 20 })) {
             for (const [label, name] of Object.entries(names)) assert.ok(sameNumber(columns[label][k], numberOf(message[name])), `${label} ${k}`)
@@ -154,7 +155,6 @@ await holds("columns of what a message tells of itself", () => {
             if (message.position !== null) assert.deepEqual(there, message.position)
             else assert.ok(Number.isNaN(there.latitude + there.longitude))
             assert.ok(sameNumber(columns[".time"][k], message.time instanceof Date ? message.time.getTime() : NaN))
-            assert.ok(Number.isNaN(columns["no such field"][k]))
             k++
         }
         assert.equal(columns[".file"].length, k)
@@ -231,9 +231,24 @@ await holds("names, units, times and what isn't there", () => {
 await holds("only some messages", () => {
     const all = [...gazhdor.messages(RIDE)]
     const placesOf = messages => messages.map(({ place }) => place)
-    for (const [only, wanted] of [["lap", ["lap"]], [20, ["record"]], [["lap", 20], ["lap", "record"]], [new Set(["no such"]), []], [[], []]])
+    for (const [only, wanted] of [["lap", ["lap"]], [20, ["record"]], [["lap", 20], ["lap", "record"]], [new Set([99999]), []], [[], []]])
         assert.deepEqual(placesOf([...gazhdor.messages(RIDE, { only })]), placesOf(all.filter(({ name }) => wanted.includes(name))))
     for (const only of [{}, [null], true, [["lap"]]]) thrown(TypeError, () => gazhdor.messages(RIDE, { only }))
+})
+
+await holds("names that nothing has", () => {
+    const lines = readFileSync("profile/fields.tsv", "utf8").trimEnd().split("\n").slice(1).map(line => line.split("\t"))
+    const told = Object.entries(PROFILE).flatMap(([message, [number, fields]]) => fields.map(field => [String(number), message, field]))
+    assert.deepEqual(told, lines.map(([number, message, , field]) => [number, message, field]))
+    const only = { only: ["record", "laps"] }
+    for (const call of [() => gazhdor.messages(RIDE, only), () => gazhdor.columns(RIDE, "laps"), () => new Stream(gazhdor, "messages", only)])
+        assert.deepEqual([thrown(UnknownName, call).nearest, thrown(UnknownName, call).message], ["lap", 'no message is named "laps": is it "lap"?'])
+    for (const [name, nearest] of [["hart_rate", "heart_rate"], ["Altitude", "altitude"], [".latitud", ".latitude"], ["x".repeat(10 ** 6), null], ["__proto__", null]])
+        assert.equal(thrown(UnknownName, () => gazhdor.columns(RIDE, "record", ["altitude", name])).nearest, nearest)
+    thrown(UnknownName, () => gazhdor.columns(RIDE, "lap", ["position_lat"]))
+    const labels = ["power", "field_5", "dev_3_4", "field_77", "dev_0_1"]
+    assert.deepEqual(Object.keys(gazhdor.columns(RIDE, 20, ["power", 5, [3, 4], "field_77", "dev_0_1"])), labels)
+    assert.deepEqual(gazhdor.columns(RIDE, 31, ["field_5"]).field_5, ["Lake loop"])
 })
 
 await holds("faults: place and reason, and what comes before", () => {

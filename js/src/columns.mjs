@@ -1,6 +1,7 @@
 /* Columns of messages: typed arrays, filled from blocks where they lie in the module's memory. */
 import { OutOfMemory, TooManyCells } from "./answers.mjs"
 import { NO_TIME, SYSTEM_TIMES, degrees, milliseconds } from "./messages.mjs"
+import { UnknownName, fieldsOf } from "./profile.mjs"
 import { FLOAT, SIGNED, UNSIGNED, labelOf, scaler } from "./values.mjs"
 
 /* So many cells may be there, however few of them have something, and so many times those that have. */
@@ -24,6 +25,7 @@ const OWN = { ".file": placed(8, 4), ".place": placed(16, 8), ".local": placed(6
 const COUNTED = { ".speed": placed(40, 8, 100), ".distance": placed(48, 8, 16), ".total_cycles": placed(56, 8), ".accumulated_power": placed(64, 8) }
 const POSITIONS = { ".latitude": "position_lat", ".longitude": "position_long" }
 const TIMES = ["timestamp", ".time"]
+const SELF = [...Object.keys(OWN), ...Object.keys(COUNTED), ...Object.keys(POSITIONS), ".time"]
 
 /* What a column takes of each message of a definition. */
 function entryOf(definition, key) {
@@ -138,11 +140,13 @@ export class Columns {
     #parts = new Map() // of each definition what it adds to, and by which entry
     #rows = 0
     #filled = 0 // cells of fields that have bytes
+    #message
 
-    constructor(fields) {
+    constructor(message, fields) {
         if (typeof fields === "string" || typeof fields === "number") throw new TypeError("the fields are a list of names, and not one name")
         this.#keys = fields === undefined || fields === null ? null : [...fields]
         for (const key of this.#keys ?? ["timestamp"]) this.#column(labelOf(key))
+        this.#message = message
     }
 
     #column(label) {
@@ -186,7 +190,17 @@ export class Columns {
         return found
     }
 
+    /* Throws UnknownName for a name that neither the profile has for these messages nor one of those that came. */
+    #seeNames() {
+        const known = new Set([...fieldsOf(this.#message), ...SELF])
+        for (const definition of this.#parts.keys()) for (const name of [...definition.labels.keys(), ...definition.byName.keys()]) known.add(name)
+        for (const key of this.#keys ?? [])
+            if (typeof key === "string" && !known.has(key) && !/^(field_\d+|dev_\d+_\d+)$/.test(key))
+                throw new UnknownName("no such message has a field", key, known)
+    }
+
     done() {
+        this.#seeNames()
         const found = Object.create(null)
         for (const [label, column] of this.#columns) found[label] = column.done(this.#rows)
         if (this.#keys === null && found.timestamp.every(Number.isNaN)) delete found.timestamp

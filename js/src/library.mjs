@@ -88,7 +88,7 @@ export class Gazhdor {
     /* A typed array for each of some fields of the messages of one name or number. */
     columns(source, message, fields, { partial = false } = {}) {
         if (typeof message !== "string" && typeof message !== "number") throw new TypeError("a message is named by its name or its number")
-        const walk = new Walk(message), columns = new Columns(fields), bytes = bytesOf(source)
+        const walk = new Walk(message), columns = new Columns(message, fields), bytes = bytesOf(source)
         try {
             for (const _ of each(new Pipe(this.#core, "blocks"), bytes, blocks => [columns.take(blocks, walk.runs(blocks))]));
         } catch (error) {

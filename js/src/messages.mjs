@@ -1,4 +1,5 @@
 /* Messages as values, made from the blocks of docs/BLOCKS.md. */
+import { seeMessage } from "./profile.mjs"
 import { Definition, exactOf, rawOf, whole } from "./values.mjs"
 
 const EPOCH = 631065600 // 1989-12-31T00:00:00 UTC, in seconds since 1970
@@ -143,8 +144,10 @@ const latin1 = new TextDecoder("latin1")
 function wants(only) {
     if (only === undefined || only === null) return () => true
     const kinds = typeof only === "string" || typeof only === "number" ? [only] : [...only]
-    for (const kind of kinds)
+    for (const kind of kinds) {
         if (typeof kind !== "string" && typeof kind !== "number") throw new TypeError(`a message is named by its name or its number, and not by ${typeof kind}`)
+        seeMessage(kind)
+    }
     return definition => kinds.includes(definition.number) || (definition.name !== null && kinds.includes(definition.name))
 }
 
