@@ -243,7 +243,8 @@ await holds("names that nothing has", () => {
     const only = { only: ["record", "laps"] }
     for (const call of [() => gazhdor.messages(RIDE, only), () => gazhdor.columns(RIDE, "laps"), () => new Stream(gazhdor, "messages", only)])
         assert.deepEqual([thrown(UnknownName, call).nearest, thrown(UnknownName, call).message], ["lap", 'no message is named "laps": is it "lap"?'])
-    for (const [name, nearest] of [["hart_rate", "heart_rate"], ["Altitude", "altitude"], [".latitud", ".latitude"], ["x".repeat(10 ** 6), null], ["__proto__", null]])
+    const near = { hart_rate: "heart_rate", Altitude: "altitude", ".latitud": ".latitude", ["x".repeat(10 ** 6)]: null, valueOf: null }
+    for (const [name, nearest] of Object.entries(near))
         assert.equal(thrown(UnknownName, () => gazhdor.columns(RIDE, "record", ["altitude", name])).nearest, nearest)
     thrown(UnknownName, () => gazhdor.columns(RIDE, "lap", ["position_lat"]))
     const labels = ["power", "field_5", "dev_3_4", "field_77", "dev_0_1"]
