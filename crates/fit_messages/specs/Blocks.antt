@@ -1,6 +1,6 @@
 -- The blocks of bytes of the events of a chain of files. `docs/BLOCKS.md` has them as tables of offsets.
-use Rattle.std.specs.Prelude.{ℕ, ◌+◌, ◌-◌, ◌/◌, ◌%◌, ◌==◌, ◌&&◌, Bool, nat_lt, if◌then◌else◌, List, [], ◌∷◌, ◌++◌, length, map, flat_map, zip}
-use Rattle.std.specs.Prelude.{sum_by, replicate, slice_index_or, slice_set, Option, Some, None, option_map, unwrap_or}
+use Rattle.std.specs.Prelude.{ℕ, ◌+◌, ◌-◌, ◌/◌, ◌%◌, ◌==◌, ◌&&◌, Bool, if◌then◌else◌, List, [], ◌∷◌, ◌++◌, length, map, flat_map, zip, sum_by, replicate}
+use Rattle.std.specs.Prelude.{nat_lt, slice_index_or, slice_set, Option, Some, None, option_map, unwrap_or}
 use Rattle.std.specs.List.{list_any}
 use Rattle.fit_base.specs.declared.code.Class.{Class}
 use Rattle.fit_base.specs.declared.code.Class.TheVariants.{Signed, Unsigned, Text, Float, Bytes}
@@ -108,8 +108,8 @@ abbrev pub value_kind : ℕ → ℕ → ℕ
 value_kind code size = if item_width code size == (base_type code).width then kind_of_class (base_type code).class else 4
 
 -- Scale and offset are of whole numbers alone: an item of another kind stands for itself.
-abbrev pub meaning_of_kind : ℕ → Meaning → Meaning
-meaning_of_kind kind m = if nat_lt kind 2 then m else record { name = m.name; unit = m.unit; scale = 1; offset = 0 }
+abbrev pub meaning_by_kind : ℕ → Meaning → Meaning
+meaning_by_kind kind m = if nat_lt kind 2 then m else record { name = m.name; unit = m.unit; scale = 1; offset = 0 }
 
 abbrev pub column : ℕ → FieldDef → Column
 column global f = record {
@@ -118,7 +118,7 @@ column global f = record {
   index = 0;
   code = f.code;
   size = f.size;
-  meaning = meaning_of_kind (value_kind f.code f.size) (unwrap_or (field global f.number) unnamed);
+  meaning = meaning_by_kind (value_kind f.code f.size) (unwrap_or (field global f.number) unnamed);
 }
 
 -- a developer field, with the base type code and the naming of its last description before the definition

@@ -58,7 +58,7 @@ fn value_kind(code: u8, size: u8) -> u8
 fn scaled(column: Column<'_>) -> Column<'_>
     requires { IsScale column.scale }
     ensures same { said result ≡ record (said column.entry) {
-      meaning = blocks.meaning_of_kind
+      meaning = blocks.meaning_by_kind
           (blocks.value_kind column.entry.code column.entry.size) (said column.entry).meaning;
     } }
     ensures scale { IsScale result.scale }

@@ -1,4 +1,4 @@
-use Rattle.std.proofs.Common.{◌∙◌, ◌++◌, [], ℕ, ap, ap₂, arith, drop, sym}
+use Rattle.std.proofs.Common.{◌∙◌, ◌++◌, ℕ, ap, ap₂, arith, drop, sym}
 use Rattle.std.proofs.lemmas.List.{append-nil}
 use Rattle.std.proofs.lemmas.List.Sums.{sum_by-append}
 use Rattle.fit_record.specs.Records.{dev_layout, layout, sizes}

@@ -4,7 +4,7 @@ use Rattle.std.specs.Global.{Global}
 use Rattle.std.specs.Prelude.{IfSome, slice_index_or}
 use Rattle.fit_chain.specs.Events.{item}
 use Rattle.fit_profile.specs.Looks.{known}
-use Rattle.fit_profile.specs.Told.{told, told_of}
+use Rattle.fit_profile.specs.Told.{told_of}
 use Rattle.fit_record.specs.Environment.{defined_at}
 use Rattle.fit_record.specs.Records.{DataFits, Fits, dev_layout, layout}
 use Rattle.fit_record.specs.declared.environment.Defined.{Defined}
