@@ -43,7 +43,7 @@ fn sizes_to_skip<A: Allocator>(env: &Env<A>) -> [u32; 16]
 }
 
 /// The local message type of the data message that the first byte heads, if it heads one.
-#[inline]
+#[inline(always)]
 fn message_type(bytes: &[u8]) -> Option<u8>
     ensures { IfSome result (HeadsMessage bytes.now) }
 {
@@ -269,5 +269,8 @@ pub fn skip_message_in_section<A: Allocator + Copy>(
     if used > 0 {
         return used;
     }
+    let Some(_) = message_type(piece) else {
+        return 0;
+    };
     skip_any_message(env, position, in_progress, piece)
 }

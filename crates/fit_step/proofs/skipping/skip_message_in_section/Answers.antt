@@ -15,3 +15,7 @@ returns-clause-message g c = λ some.
 pub returns-clause-whole : goal.returns-clause-whole
 returns-clause-whole g c = λ idle size has large.
     absurd (omega (arith, c.skip_plain_message-used.ensures.whole idle size has large, has_some c.args.env.now c.args.piece.now size has, c.if-used-gt0.false))
+
+pub returns-in_default-clause-whole : goal.returns-in_default-clause-whole
+returns-in_default-clause-whole g c = λ idle size has large.
+    absurd (omega (arith, c.skip_plain_message-used.ensures.whole idle size has large, has_some c.args.env.now c.args.piece.now size has, c.if-used-gt0.false))
