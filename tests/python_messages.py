@@ -175,8 +175,8 @@ class Values(unittest.TestCase):
         self.assertEqual((found["altitude"], found["distance"], found["enhanced_altitude"]), ((0.0, 0.2, None), 0.01, 858992958.8))
         self.assertEqual(repr(found.field("altitude").exact), "(Decimal('0.0'), Decimal('0.2'), None)")
         self.assertEqual((str(found.field(5).exact), str(found.field(78).exact), found.field(5).raw), ("0.01", "858992958.8", 1))
-        # a float in such a field is told in the same units
-        self.assertEqual(self.one((2, FLOAT32, packed("<f", 2502.5)), number=20)["altitude"], 0.5)
+        # a float in such a field stands for itself
+        self.assertEqual(self.one((2, FLOAT32, packed("<f", 2502.5)), number=20)["altitude"], 2502.5)
 
     def test_floats(self):
         nan = 0x7FC00123
