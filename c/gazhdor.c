@@ -10,6 +10,7 @@ gazhdor_answer proved_gazhdor_to_csv(const uint8_t *bytes, size_t length, gazhdo
 gazhdor_answer proved_gazhdor_show(const uint8_t *bytes, size_t length, gazhdor_text *text);
 gazhdor_answer proved_gazhdor_messages(const uint8_t *bytes, size_t length, gazhdor_text *blocks);
 gazhdor_answer proved_gazhdor_from_csv(const uint8_t *text, size_t length, gazhdor_text *bytes);
+gazhdor_answer proved_gazhdor_from_messages(const uint8_t *blocks, size_t length, gazhdor_text *bytes);
 gazhdor_answer proved_gazhdor_open(gazhdor_stream *stream, uint32_t kind);
 gazhdor_answer proved_gazhdor_feed(gazhdor_stream *stream, const uint8_t *bytes, size_t length, gazhdor_text *text);
 gazhdor_answer proved_gazhdor_finish(gazhdor_stream *stream, gazhdor_text *text);
@@ -48,6 +49,11 @@ gazhdor_answer gazhdor_messages(const uint8_t *bytes, size_t length, gazhdor_tex
 gazhdor_answer gazhdor_from_csv(const uint8_t *text, size_t length, gazhdor_text *bytes)
 {
     return proved_gazhdor_from_csv(some(text), length, bytes);
+}
+
+gazhdor_answer gazhdor_from_messages(const uint8_t *blocks, size_t length, gazhdor_text *bytes)
+{
+    return proved_gazhdor_from_messages(some(blocks), length, bytes);
 }
 
 gazhdor_answer gazhdor_open(gazhdor_stream *stream, uint32_t kind)

@@ -2,13 +2,15 @@
 use Rattle.fit_c.proofs.Common.{◌≡◌, inr, inl, true, false, Bool, ℕ, List, [], Option, Some, None, Result, Ok, Err, ◌++◌, refl, sym, ap, ◌∙◌, subst, flat_map}
 use Rattle.fit_c.proofs.Common.{is_ok, reverse, Global, file_events, Lines, text_of, Channel, ReportsChain, CsvFault, Answers, FromTextOf, IsTextOf}
 use Rattle.fit_c.proofs.Common.{IsTextUnlessNoMemory, conversion_answer, given, report_answer}
+use Rattle.fit_c.proofs.Common.{AreBlocksOf, BlocksFault, FromBlocks, FromBlocksOf, OnOk, blocks_answer}
 use Rattle.std.specs.Io.KnownBytes.{Appends}
 use Rattle.fit_record.specs.declared.file.FitFile.{FitFile}
 use Rattle.fit_report.specs.declared.fault.ReportFault.{ReportFault}
 use Rattle.fit_chain.specs.declared.event.Fault.TheVariants as faults
 use Rattle.fit_report.specs.declared.fault.ReportFault.TheVariants as reports
 use Rattle.fit_csv.specs.declared.fault.CsvFault.TheVariants as csv
-use Rattle.fit_c.proofs.Said.{conversion_bad}
+use Rattle.fit_from_messages.specs.declared.fault.BlocksFault.TheVariants as blocks
+use Rattle.fit_c.proofs.Said.{blocks_bad, conversion_bad}
 
 -- what was put in a sink that was empty is all that it has
 put : (before after : Option (List ℕ)) (items text : List ℕ) → before ≡ Some [] → Some items ≡ after → Appends before after text → items ≡ text
@@ -47,3 +49,17 @@ module _ (sink : Channel) (good : Bool) (items : List ℕ) (none : sink.before �
   bytes_back bytes source (Err csv.NoMemory) works so some = inl refl
   bytes_back bytes source (Err csv.Read) works so bad = let both : true ≡ false = sym bad ∙ works in absurd cc
   bytes_back bytes source (Err (csv.Write written)) works so some = inl refl
+
+  pub blocks_good : (b : List ℕ) (r : Result (Unit {0}) BlocksFault) → good ≡ is_ok r → OnOk r (FromBlocks b sink) → (blocks_answer r).status ≡ 0
+      → (files : List (FitFile Global)) × AreBlocksOf b files items
+  blocks_good b (Ok u) so (files, bytes, of, more, fine) zero =
+      (files, subst (AreBlocksOf b files) (sym (put sink.before sink.after items bytes none (is so) more)) of)
+  blocks_good b (Err fault) so bad zero = absurd (blocks_bad fault zero)
+
+  pub blocks_back : (bytes : List ℕ) (r : Result (Unit {0}) BlocksFault) → good ≡ is_ok r → FromBlocksOf bytes sink r
+      → IsTextUnlessNoMemory bytes (blocks_answer r) items
+  blocks_back bytes (Ok u) so (more, fine) = inr (refl, put sink.before sink.after items bytes none (is so) more)
+  blocks_back bytes (Err (blocks.Block number place reason)) so bad = absurd bad
+  blocks_back bytes (Err (blocks.Encode fault)) so bad = absurd bad
+  blocks_back bytes (Err blocks.NoMemory) so some = inl refl
+  blocks_back bytes (Err (blocks.Write written)) so some = inl refl

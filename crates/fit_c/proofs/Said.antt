@@ -1,10 +1,11 @@
 -- What follows from a status.
-use Rattle.fit_c.proofs.Common.{◌≡◌, ℕ, List, Result, Ok, Err, inl, inr, refl, ◌⊎◌, IfErr, IfOk, Global, CsvFault}
-use Rattle.fit_c.proofs.Common.{check_answer, conversion_answer, fault_answer}
+use Rattle.fit_c.proofs.Common.{◌≡◌, ℕ, List, Result, Ok, Err, inl, inr, refl, ◌⊎◌, IfErr, IfOk, Global, BlocksFault, CsvFault}
+use Rattle.fit_c.proofs.Common.{blocks_answer, check_answer, conversion_answer, fault_answer}
 use Rattle.fit_chain.specs.declared.event.Fault.{Fault}
 use Rattle.fit_chain.specs.Checks.{AreChain, AreFiles, LacksMemory}
 use Rattle.fit_chain.specs.declared.event.Fault.TheVariants as faults
 use Rattle.fit_csv.specs.declared.fault.CsvFault.TheVariants as csv
+use Rattle.fit_from_messages.specs.declared.fault.BlocksFault.TheVariants as blocks
 
 -- ---- a fault never has status 0
 
@@ -23,6 +24,12 @@ conversion_bad (csv.Encode fault) zero = absurd cc
 conversion_bad csv.NoMemory zero = absurd cc
 conversion_bad csv.Read zero = absurd cc
 conversion_bad (csv.Write written) zero = absurd cc
+
+pub blocks_bad : (fault : BlocksFault) → (blocks_answer {X = Unit {0}} (Err fault)).status ≡ 0 → ⊥
+blocks_bad (blocks.Block number place reason) zero = absurd cc
+blocks_bad (blocks.Encode fault) zero = absurd cc
+blocks_bad blocks.NoMemory zero = absurd cc
+blocks_bad (blocks.Write written) zero = absurd cc
 
 -- ---- so status 0 is that of a chain
 

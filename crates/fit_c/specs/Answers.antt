@@ -1,5 +1,5 @@
 -- What the calls for C answer: a status, and where and why.
-use Rattle.std.specs.Prelude.{◌≡◌, ◌⊎◌, ℕ, Bool, false, List, [], Option, Some, Result, Ok, Err, IfErr, IfOk}
+use Rattle.std.specs.Prelude.{◌≡◌, ◌⊎◌, ℕ, Bool, false, List, [], Option, Some, Result, Ok, Err, IfErr, IfOk, OnOk}
 use Rattle.std.specs.declared.alloc.Global.{Global}
 use Rattle.std.specs.Io.KnownBytes.{Consumes}
 use Rattle.fit_frame.specs.declared.reason.Reason.{Reason}
@@ -17,6 +17,11 @@ use Rattle.fit_csv.specs.declared.fault.CsvFault.{CsvFault}
 use Rattle.fit_csv.specs.declared.fault.CsvFault.TheVariants as csv
 use Rattle.fit_csv.specs.Conversions.{Converts, RowsOf}
 use Rattle.fit_csv.specs.FromText.{ReadsText}
+use Rattle.fit_from_messages.specs.declared.fault.BlockReason.{BlockReason}
+use Rattle.fit_from_messages.specs.declared.fault.BlockReason.TheVariants as block
+use Rattle.fit_from_messages.specs.declared.fault.BlocksFault.{BlocksFault}
+use Rattle.fit_from_messages.specs.declared.fault.BlocksFault.TheVariants as blocks
+use Rattle.fit_from_messages.specs.FromBlocks.{FromBlocks, FromFault}
 use Rattle.fit_c.specs.declared.answer.FitAnswer.{FitAnswer}
 
 -- the number of a reason, as `gazhdor.h` has it
@@ -68,6 +73,27 @@ report_answer (Err (reports.Decode fault)) = fault_answer fault
 report_answer (Err reports.NoMemory) = status_alone 3
 report_answer (Err (reports.Write written)) = status_alone 3
 
+-- the number of a reason of a block, as `gazhdor.h` has it
+abbrev pub block_reason_code : BlockReason → ℕ
+block_reason_code block.Cut = 1
+block_reason_code block.Kind = 2
+block_reason_code block.Header = 3
+block_reason_code block.Local = 4
+block_reason_code block.Architecture = 5
+block_reason_code block.Entries = 6
+block_reason_code block.Size = 7
+block_reason_code block.Offset = 8
+block_reason_code block.Undefined = 9
+block_reason_code block.Items = 10
+
+-- what is said of what was answered to blocks
+abbrev pub blocks_answer : {X : Type 0} → Result X BlocksFault → FitAnswer
+blocks_answer (Ok _) = status_alone 0
+blocks_answer (Err (blocks.Block number place reason)) = record (status_alone 8) { reason = block_reason_code reason; place = place; row = number }
+blocks_answer (Err (blocks.Encode fault)) = status_alone 5
+blocks_answer (Err blocks.NoMemory) = status_alone 3
+blocks_answer (Err (blocks.Write written)) = status_alone 3
+
 -- The bytes are that many files, one after another; or this is why they aren't known to be a chain of files, and memory was refused
 -- only at a byte that may take some.
 abbrev pub IsFinding : List ℕ → FitAnswer → Type 0
@@ -102,3 +128,10 @@ abbrev pub IsTextRead : List ℕ → FitAnswer → Type 0
 IsTextRead text a =
     (r : Result (Unit {0}) CsvFault) × (left : List ℕ) × (held : Option (List ℕ)) × (failed : Bool) × (a ≡ conversion_answer r)
     × ReadsText (given text left) (record { before = Some []; after = held; failed = failed }) r
+
+-- The answer is that of reading the blocks: they are those of a chain, which was put in a sink; or this is the first that can't stand
+-- where it is, or why the files that they say have no bytes.
+abbrev pub AreBlocksRead : List ℕ → FitAnswer → Type 0
+AreBlocksRead bytes a =
+    (r : Result (Unit {0}) BlocksFault) × (sink : Channel) × (sink.before ≡ Some []) × (a ≡ blocks_answer r) × OnOk r (FromBlocks bytes sink)
+    × IfErr r (FromFault bytes sink)

@@ -1,10 +1,12 @@
 //! What the calls return.
 ghost use Rattle.std.specs.Prelude.{◌≡◌};
-ghost use Rattle.fit_c.specs.Answers.{check_answer, conversion_answer, fault_answer, status_alone, reason_code, report_answer};
+ghost use Rattle.fit_c.specs.Answers.{block_reason_code, blocks_answer, check_answer, conversion_answer, fault_answer};
+ghost use Rattle.fit_c.specs.Answers.{status_alone, reason_code, report_answer};
 
 use fit_csv::CsvFault;
 use fit_decode::Fault;
 use fit_frame::Reason;
+use fit_from_messages::{BlockReason, BlocksFault};
 use fit_report::ReportFault;
 
 /// A status, and where and why. A number that has no meaning for the status is 0.
@@ -12,13 +14,13 @@ use fit_report::ReportFault;
 #[derive(Clone, Copy)]
 pub struct FitAnswer {
     /// 0 good, 1 refused, 2 truncated, 3 out of memory, 4 a row or a cell of a text refused, 5 no file has such rows, 6 the stream is
-    /// closed, 7 there is no such kind of stream.
+    /// closed, 7 there is no such kind of stream, 8 a block can't stand where it is.
     pub status: u32,
-    /// With status 1 the number of the reason.
+    /// With status 1 and 8 the number of the reason.
     pub reason: u32,
-    /// With status 1 and 2 the place of the byte, counted from 0.
+    /// With status 1 and 2 the place of the byte, and with status 8 where the block begins, counted from 0.
     pub place: u64,
-    /// With status 4 the row, counted from 1.
+    /// With status 4 the row, counted from 1; with status 8 the number of the block, counted from 0.
     pub row: u64,
     /// With status 4 the column of a cell, counted from 1; 0 where the row as a whole is refused.
     pub column: u64,
@@ -111,5 +113,46 @@ pub(crate) fn answer_for_report(answered: Result<(), ReportFault>) -> FitAnswer
         Ok(()) => plain(0),
         Err(ReportFault::Decode(fault)) => answer_for_fault(fault),
         Err(ReportFault::NoMemory | ReportFault::Write { .. }) => plain(3),
+    }
+}
+
+/// The number of a reason of a block.
+fn block_code(reason: BlockReason) -> u32
+    ensures { result ≡ block_reason_code reason }
+{
+    match reason {
+        BlockReason::Cut => 1,
+        BlockReason::Kind => 2,
+        BlockReason::Header => 3,
+        BlockReason::Local => 4,
+        BlockReason::Architecture => 5,
+        BlockReason::Entries => 6,
+        BlockReason::Size => 7,
+        BlockReason::Offset => 8,
+        BlockReason::Undefined => 9,
+        BlockReason::Items => 10,
+    }
+}
+
+/// The answer for what was returned of blocks.
+pub(crate) fn answer_for_blocks(answered: Result<(), BlocksFault>) -> FitAnswer
+    ensures { result ≡ blocks_answer answered }
+{
+    match answered {
+        Ok(()) => plain(0),
+        Err(
+            BlocksFault::Block {
+                number,
+                place,
+                reason,
+            },
+        ) => FitAnswer {
+            reason: block_code(reason),
+            place,
+            row: number,
+            ..plain(8)
+        },
+        Err(BlocksFault::Encode(_)) => plain(5),
+        Err(BlocksFault::NoMemory | BlocksFault::Write { .. }) => plain(3),
     }
 }

@@ -13,4 +13,7 @@ pub use answer::FitAnswer;
 pub use check::gazhdor_check;
 pub use handle::FitStream;
 pub use stream::{gazhdor_close, gazhdor_feed, gazhdor_finish, gazhdor_open};
-pub use texts::{gazhdor_from_csv, gazhdor_messages, gazhdor_show, gazhdor_table, gazhdor_to_csv};
+pub use texts::{
+    gazhdor_from_csv, gazhdor_from_messages, gazhdor_messages, gazhdor_show, gazhdor_table,
+    gazhdor_to_csv,
+};

@@ -10,14 +10,16 @@ ghost use Rattle.fit_cells.specs.Rows.{csv_text};
 ghost use Rattle.fit_rows.specs.ChainRows.{chain_rows, rows_of};
 ghost use Rattle.fit_csv.specs.FromText.{IsTextOf};
 ghost use Rattle.fit_messages.specs.Blocks.{event_block};
+ghost use Rattle.fit_from_messages.specs.FromBlocks.{AreBlocksOf};
 ghost use Rattle.fit_show.specs.ShowLines.{show_line};
 ghost use Rattle.fit_table.specs.Table.{table_of};
-ghost use Rattle.fit_c.specs.Answers.{IsConverted, IsReported, IsTextRead, IsTextUnlessNoMemory};
+ghost use Rattle.fit_c.specs.Answers.{AreBlocksRead, IsConverted, IsReported, IsTextRead, IsTextUnlessNoMemory};
 
 use crate::FitAnswer;
-use crate::answer::{answer_for_conversion, answer_for_report};
+use crate::answer::{answer_for_blocks, answer_for_conversion, answer_for_report};
 use fit_csv::{ShowReport, from_csv_text, table, to_csv};
 use fit_encode::WriteSink;
+use fit_from_messages::from_messages;
 use fit_messages::MessagesReport;
 use fit_report::{Report, report};
 use std::alloc::Global;
@@ -142,4 +144,24 @@ pub extern "C" fn gazhdor_from_csv(
     let answered = from_csv_text(alloc, text, &mut sink);
     *bytes = handed_where(answered.is_ok(), sink);
     answer_for_conversion(answered)
+}
+
+/// The bytes of the chain of files that blocks say (`docs/BLOCKS.md`). No bytes where a block is refused, and none where memory is.
+#[unsafe(no_mangle)]
+pub extern "C" fn gazhdor_from_messages(
+    alloc: Global,
+    blocks: &[u8],
+    bytes: &mut &'static [u8],
+) -> FitAnswer
+    ensures read { AreBlocksRead blocks.now result }
+    ensures good { result.status ≡ 0
+        → (files : List (FitFile Global)) × AreBlocksOf blocks.now files bytes.new.now }
+    ensures nothing { result.status ≢ 0 → bytes.new.now ≡ [] }
+    ensures chain { (files : List (FitFile Global)) (b : List ℕ) → AreBlocksOf blocks.now files b
+        → IsTextUnlessNoMemory b result bytes.new.now }
+{
+    let mut sink = memory(alloc);
+    let answered = from_messages(alloc, blocks, &mut sink);
+    *bytes = handed_where(answered.is_ok(), sink);
+    answer_for_blocks(answered)
 }
