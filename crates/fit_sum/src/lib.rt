@@ -6,4 +6,4 @@ mod sum;
 mod tables;
 mod words;
 
-pub use crate::sum::Sum;
+pub use crate::sum::{Sum, checksum_of};

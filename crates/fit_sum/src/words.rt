@@ -134,7 +134,8 @@ fn add_long(register: u16, bytes: &[u8]) -> u16
 /// The register after more bytes. Where they are few, little is done besides the look-ups.
 #[inline(always)]
 pub(crate) fn add_bytes(register: u16, bytes: &[u8]) -> u16
-    ensures { result ≡ run register bytes.now }
+    ensures register { result ≡ run register bytes.now }
+    ensures bytes { AllBytes bytes.now }
 {
     if bytes.len() < 256 {
         add_by_eights(register, bytes)

@@ -1,6 +1,6 @@
 //! Sums that are known from outside.
 use crate::asserts::{equal, equal_at};
-use fit_sum::Sum;
+use fit_sum::{Sum, checksum_of};
 
 // What catalogues of checksums give for this text.
 #[test]
@@ -14,14 +14,20 @@ fn nine_digits(rt: HostRuntime) {
     let mut together = Sum::new();
     together.add_all(b"123456789");
     equal(&rt, &together.value(), &0xBB3D);
+
+    together.clear();
+    together.add_all(b"123456789");
+    equal(&rt, &together.value(), &0xBB3D);
+
+    equal(&rt, &checksum_of(b"1234", b"56789"), &0xBB3D);
 }
 
 // The expected sums were computed by a Python program, one nibble at a time by the table that the
 // FIT protocol prints.
 #[test]
-fn a_thousand_bytes_in_pieces(rt: HostRuntime) {
-    let mut bytes = [0; 1000];
-    for i in 0..1000 {
+fn five_thousand_bytes_in_pieces(rt: HostRuntime) {
+    let mut bytes = [0; 5000];
+    for i in 0..5000 {
         bytes[i] = ((37 * i + 11) % 256) as u8;
     }
     for (len, expected) in [
@@ -30,12 +36,15 @@ fn a_thousand_bytes_in_pieces(rt: HostRuntime) {
         (257, 0x95D0),
         (999, 0xED3E),
         (1000, 0x3CED),
+        (2048, 0x623B),
+        (2049, 0x1462),
+        (5000, 0x4D06),
     ] {
         let mut whole = Sum::new();
         whole.add_all(&bytes[..len]);
         equal_at(&rt, &whole.value(), &expected, &len);
 
-        for size in [1, 3, 8, 100, 128, 300] {
+        for size in [1, 3, 8, 100, 128, 300, 1023, 1024, 1500, 2049] {
             let mut sum = Sum::new();
             for piece in bytes[..len].chunks(size) {
                 sum.add_all(piece);
