@@ -175,7 +175,7 @@ impl Stage {
         match answer {
             Ok(false) => (used, Ok(Part::More)),
             Ok(true) => {
-                *sum = Sum::new();
+                sum.clear();
                 *env = Env::new(alloc);
                 self.files += 1;
                 self.section = Section::Header;

@@ -8,7 +8,7 @@ ghost use Rattle.fit_encode.specs.inner.Kept.{with_sum};
 
 use crate::{Sink, put_all};
 use fit_frame::sum_bytes;
-use fit_sum::Sum;
+use fit_sum::checksum_of;
 use std::alloc::{AllocError, Global};
 use std::marker::Model;
 use std::mem;
@@ -17,10 +17,7 @@ use std::mem;
 fn sum_of(head: &[u8], section: &[u8]) -> [u8; 2]
     ensures { result ≡ little_bytes 2 (checksum (head.now ++ section.now)) }
 {
-    let mut sum = Sum::new();
-    sum.add_all(head);
-    sum.add_all(section);
-    sum_bytes(sum.value())
+    sum_bytes(checksum_of(head, section))
 }
 
 /// Puts a header, data, and the checksum of both after other bytes. Out of memory, there may be more bytes.

@@ -65,7 +65,7 @@ impl Spelling {
     {
         self.used = 0;
         self.gone = 0;
-        self.sum = Sum::new();
+        self.sum.clear();
         self.count = count;
     }
 

@@ -7,7 +7,7 @@ ghost use Rattle.fit_frame.specs.Header.{signature, sum_part, header_bytes, Size
 use crate::{HeadFault, Header, HeaderSum};
 use arrayvec::ArrayVec;
 use byteorder::{ByteOrder, LittleEndian};
-use fit_sum::Sum;
+use fit_sum::checksum_of;
 
 /// The bytes of a header before `data_len` bytes of data (section "File Header").
 ///
@@ -74,9 +74,7 @@ fn fixed_part(size: u8, protocol: u8, profile: u16, data_len: u32) -> [u8; 12]
 pub(crate) fn checksum(bytes: &[u8]) -> u16
     ensures { result ≡ checksum bytes.now }
 {
-    let mut sum = Sum::new();
-    sum.add_all(bytes);
-    sum.value()
+    checksum_of(bytes, &[])
 }
 
 /// The bytes of a checksum, the lowest first.
