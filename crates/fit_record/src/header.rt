@@ -1,5 +1,5 @@
 //! The record header byte (FIT protocol, "Record Header").
-ghost use Rattle.std.specs.Prelude.{◌≡◌, ◌<◌};
+ghost use Rattle.std.specs.Prelude.{◌≡◌, ◌||◌, ◌<◌, false, IfSome, IsNone, IsTrue};
 ghost use Rattle.fit_record.specs.HeaderByte.{bit, is_compressed, is_definition, has_developer_fields, has_reserved_bit, local_type, time_offset};
 
 /// The bit of a data message with a time offset; a header without it is a normal one. Bits are counted from the lowest, 0.
@@ -82,4 +82,23 @@ pub fn time_offset(byte: u8) -> Option<u8>
     } else {
         None
     }
+}
+
+/// The local message type and the time offset in this record header, where it is that of a data message without a reserved bit. Most are
+/// normal ones, which have the local message type alone.
+#[inline(always)]
+pub fn message_header(byte: u8) -> Option<(u8, Option<u8>)>
+    ensures clean { IfSome result (λ _. has_reserved_bit byte ≡ false) }
+    ensures data { IfSome result (λ _. is_definition byte ≡ false) }
+    ensures local { IfSome result (λ h. h.0 ≡ local_type byte) }
+    ensures offset { IfSome result (λ h. h.1 ≡ time_offset byte) }
+    ensures none { IsNone result → IsTrue (has_reserved_bit byte || is_definition byte) }
+{
+    if byte <= LOCAL_TYPE {
+        return Some((byte, None));
+    }
+    if has_reserved_bit(byte) || is_definition(byte) {
+        return None;
+    }
+    Some((local_type(byte), time_offset(byte)))
 }

@@ -8,7 +8,7 @@ ghost use Rattle.fit_record.specs.ReadMessages.{field_from, fields_from, numbers
 ghost use Rattle.fit_record.specs.Records.{IsRecord, message_size, sizes};
 ghost use Rattle.fit_record.specs.Sound.{IsSound};
 
-use crate::header::{has_reserved_bit, is_definition, local_type, time_offset};
+use crate::header::message_header;
 use crate::{Defined, Env, Layout, Values};
 use fit_base::{Bits, Code, Entries, Items, Order, bits_at, width_of};
 use std::alloc::{AllocError, Allocator, Global};
@@ -41,11 +41,7 @@ impl<A: Allocator> Env<A> {
             → IsSomeAnd result (λ m. (message_in m ≡ v) × (1 + length m.body.now ≡ length front)) }
     {
         let (first, rest) = bytes.split_first()?;
-        let byte = *first;
-        if has_reserved_bit(byte) || is_definition(byte) {
-            return None;
-        }
-        let local = local_type(byte);
+        let (local, offset) = message_header(*first)?;
         let defined = self.defined(local)?;
         let size = self.length(local)? as usize;
         if rest.len() < size {
@@ -54,7 +50,7 @@ impl<A: Allocator> Env<A> {
         let (body, _) = rest.split_at(size);
         Some(MessageBytes {
             local,
-            offset: time_offset(byte),
+            offset,
             defined,
             body,
         })
