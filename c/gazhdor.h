@@ -180,6 +180,8 @@ const char *gazhdor_version(void);
 #endif
 
 #include "gazhdor_blocks.h"
+#include "gazhdor_write.h"
+#include "gazhdor_set.h"
 #include "gazhdor_reasons.h"
 
 #endif

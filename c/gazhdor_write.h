@@ -1,0 +1,397 @@
+/* What writes blocks, of which gazhdor_from_messages makes a FIT file: new ones, and changed copies of those that were read. gazhdor.h
+ * includes it.
+ *
+ *     gazhdor_field fields[] = { gazhdor_new_field(253, GAZHDOR_TYPE_UINT32, 1),
+ *         gazhdor_scaled(gazhdor_new_field(2, GAZHDOR_TYPE_UINT16, 1), 5, 500) };
+ *     gazhdor_writer to = gazhdor_write(NULL, 0, gazhdor_by_realloc, NULL);
+ *     gazhdor_put_header(&to, 0);
+ *     gazhdor_put_definition(&to, 0, GAZHDOR_MESSAGE_RECORD, fields, 2);
+ *     gazhdor_put_message(&to, 0);
+ *     gazhdor_set_number(&to, fields[0], 0, 1000000000);
+ *     gazhdor_set_value(&to, fields[1], 0, 408.2);
+ *     gazhdor_put_end(&to);
+ *     if (to.fault == GAZHDOR_PUT) answer = gazhdor_from_messages(to.bytes, to.length, &file);
+ *     free(to.bytes);
+ *
+ * Tested, not proved: each function does all of what it says or nothing, and none reads or writes outside the memory that it is given,
+ * whatever the numbers are. */
+#ifndef GAZHDOR_WRITE_H
+#define GAZHDOR_WRITE_H
+
+#include "gazhdor.h"
+
+#ifdef __cplusplus
+extern "C" {
+#endif
+
+/* What a function that writes answers. With all but GAZHDOR_PUT the blocks are what they were. */
+enum gazhdor_put {
+    GAZHDOR_PUT = 0,        /* It was done. */
+    GAZHDOR_PUT_FULL = 1,   /* The memory has no room for the block, or more was refused. */
+    GAZHDOR_PUT_ORDER = 2,  /* No file is open, or, for a header, one is; or the last block isn't a message. */
+    GAZHDOR_PUT_LOCAL = 3,  /* There is no such local message type, the file doesn't define it, or its messages have no time offset. */
+    GAZHDOR_PUT_COUNT = 4,  /* There are more than 255 fields or developer fields, or one comes after a developer field. */
+    GAZHDOR_PUT_FIELD = 5,  /* There is no such field, its size isn't allowed, it is none of the last message, or it has no such item. */
+    GAZHDOR_PUT_LENGTH = 6, /* Text or items are too long or too short, or a block isn't whole. */
+    GAZHDOR_PUT_KIND = 7,   /* The field has no numbers, or no text. */
+    GAZHDOR_PUT_RANGE = 8,  /* The number has no place there, or stands for no value. */
+    GAZHDOR_PUT_NAN = 9     /* The value isn't a number. */
+};
+
+/* The base types of fields, by their codes in the file. */
+enum gazhdor_base_type {
+    GAZHDOR_TYPE_ENUM = 0x00,
+    GAZHDOR_TYPE_SINT8 = 0x01,
+    GAZHDOR_TYPE_UINT8 = 0x02,
+    GAZHDOR_TYPE_STRING = 0x07,
+    GAZHDOR_TYPE_UINT8Z = 0x0A,
+    GAZHDOR_TYPE_BYTE = 0x0D,
+    GAZHDOR_TYPE_SINT16 = 0x83,
+    GAZHDOR_TYPE_UINT16 = 0x84,
+    GAZHDOR_TYPE_SINT32 = 0x85,
+    GAZHDOR_TYPE_UINT32 = 0x86,
+    GAZHDOR_TYPE_FLOAT32 = 0x88,
+    GAZHDOR_TYPE_FLOAT64 = 0x89,
+    GAZHDOR_TYPE_UINT16Z = 0x8B,
+    GAZHDOR_TYPE_UINT32Z = 0x8C,
+    GAZHDOR_TYPE_SINT64 = 0x8E,
+    GAZHDOR_TYPE_UINT64 = 0x8F,
+    GAZHDOR_TYPE_UINT64Z = 0x90
+};
+
+#define GAZHDOR_NOWHERE (~GAZHDOR_CAST(size_t, 0))
+
+/* Gives memory of at least that capacity which begins with what `bytes` held, and lets go of `bytes`, which may be NULL; NULL where there
+ * is none, and then `bytes` stay as they are. `own` is the caller's. */
+typedef uint8_t *gazhdor_grow(void *own, uint8_t *bytes, size_t capacity);
+
+/* Blocks in the making. Between calls you may read all of it, and set `fault`. */
+typedef struct gazhdor_writer {
+    uint8_t *bytes;       /* the blocks, in memory of `capacity` bytes */
+    size_t length;
+    size_t capacity;
+    gazhdor_grow *grow;   /* NULL where there is no more memory than this */
+    void *own;            /* what `grow` is given */
+    uint32_t fault;       /* the first answer with which a block didn't come, an enum gazhdor_put */
+    uint32_t file;        /* how many files have begun */
+    int within;           /* 1 within a file, else 0 */
+    uint64_t definitions; /* how many definitions were made here */
+    size_t message;       /* where the last block begins, if it is a message; else GAZHDOR_NOWHERE */
+    size_t known[16];     /* where the last definition of each local message type in this file begins, or GAZHDOR_NOWHERE */
+} gazhdor_writer;
+
+static inline uint8_t *gazhdor_by_realloc(void *own, uint8_t *bytes, size_t capacity)
+{
+    (void)own;
+    return GAZHDOR_CAST(uint8_t *, realloc(bytes, capacity));
+}
+
+static inline void gazhdor_know_nothing(gazhdor_writer *to)
+{
+    to->message = GAZHDOR_NOWHERE;
+    for (size_t i = 0; i < 16; i++)
+        to->known[i] = GAZHDOR_NOWHERE;
+}
+
+/* Nothing yet, in memory of `capacity` bytes that `grow` makes larger. `grow` is gazhdor_by_realloc for memory of malloc, or NULL, and
+ * `bytes` may be; `own` is what it gets. The memory stays the caller's, who frees it. */
+static inline gazhdor_writer gazhdor_write(uint8_t *bytes, size_t capacity, gazhdor_grow *grow, void *own)
+{
+    gazhdor_writer to;
+    memset(&to, 0, sizeof to);
+    to.bytes = bytes;
+    to.capacity = bytes == GAZHDOR_NULL ? 0 : capacity;
+    to.grow = grow;
+    to.own = own;
+    gazhdor_know_nothing(&to);
+    return to;
+}
+
+/* ---- fields */
+
+/* A field for gazhdor_put_definition: its number, the code of its base type, and how many items it has. It isn't there where there is no
+ * such number or base type, or where it has more than 255 bytes. */
+static inline gazhdor_field gazhdor_new_field(uint32_t number, uint32_t base_type, size_t count)
+{
+    static const uint8_t widths[17] = { 1, 1, 1, 2, 2, 4, 4, 1, 4, 8, 1, 2, 4, 1, 8, 8, 8 };
+    static const uint8_t kinds[17] = { GAZHDOR_UNSIGNED, GAZHDOR_SIGNED, GAZHDOR_UNSIGNED, GAZHDOR_SIGNED, GAZHDOR_UNSIGNED, GAZHDOR_SIGNED,
+        GAZHDOR_UNSIGNED, GAZHDOR_STRING, GAZHDOR_FLOAT, GAZHDOR_FLOAT, GAZHDOR_UNSIGNED, GAZHDOR_UNSIGNED, GAZHDOR_UNSIGNED, GAZHDOR_BYTES,
+        GAZHDOR_SIGNED, GAZHDOR_UNSIGNED, GAZHDOR_UNSIGNED };
+    const uint32_t zero = 1u << 7 | 1u << 10 | 1u << 11 | 1u << 12 | 1u << 16;
+    gazhdor_block nothing = { GAZHDOR_NULL, 0, 0, 0, 0, 0 };
+    gazhdor_field field = gazhdor_field_at(nothing, 0);
+    uint32_t type = base_type & 31, width = type > 16 ? 0 : widths[type];
+    if (width == 0 || base_type != (width > 1 ? 0x80 | type : type) || number > 255 || count > 255 / width)
+        return field;
+    uint64_t ones = ~GAZHDOR_CAST(uint64_t, 0) >> (64 - 8 * width);
+    field.there = 1;
+    field.invalid = (zero >> type & 1) != 0 ? 0 : kinds[type] == GAZHDOR_SIGNED ? ones >> 1 : ones;
+    field.scale = 1;
+    field.number = GAZHDOR_CAST(uint8_t, number);
+    field.base_type = GAZHDOR_CAST(uint8_t, base_type);
+    field.kind = kinds[type];
+    field.width = GAZHDOR_CAST(uint8_t, width);
+    field.count = GAZHDOR_CAST(uint8_t, count);
+    return field;
+}
+
+/* The same of a developer field. The base type is that of its description, which comes before the definition in the file; where none
+ * does, it is GAZHDOR_TYPE_BYTE. */
+static inline gazhdor_field gazhdor_new_developer(uint32_t index, uint32_t number, uint32_t base_type, size_t count)
+{
+    gazhdor_field field = gazhdor_new_field(index > 255 ? 256 : number, base_type, count);
+    field.developer = field.there != 0;
+    field.index = GAZHDOR_CAST(uint8_t, field.there ? index : 0);
+    return field;
+}
+
+/* A field of whose items each stands for item / scale - offset, as its profile says. */
+static inline gazhdor_field gazhdor_scaled(gazhdor_field field, uint32_t scale, uint32_t offset)
+{
+    field.scale = scale;
+    field.offset = offset;
+    return field;
+}
+
+/* ---- blocks */
+
+/* This answer, with which a block didn't come. */
+static inline uint32_t gazhdor_missed(gazhdor_writer *to, uint32_t answer)
+{
+    to->message = GAZHDOR_NOWHERE;
+    if (to->fault == GAZHDOR_PUT)
+        to->fault = answer;
+    return answer;
+}
+
+/* Sees that there is room for that many bytes more. */
+static inline int gazhdor_has_room(gazhdor_writer *to, size_t length)
+{
+    if (to->length <= to->capacity && length <= to->capacity - to->length)
+        return 1;
+    size_t most = GAZHDOR_NOWHERE - to->length, capacity = to->capacity < GAZHDOR_NOWHERE / 2 ? 2 * to->capacity : to->capacity;
+    if (to->grow == GAZHDOR_NULL || length > most)
+        return 0;
+    if (capacity < to->length + length)
+        capacity = to->length + length;
+    uint8_t *bytes = to->grow(to->own, to->bytes, capacity);
+    if (bytes == GAZHDOR_NULL)
+        return 0;
+    to->bytes = bytes;
+    to->capacity = capacity;
+    return 1;
+}
+
+/* The block that begins at this place; none where there is none. */
+static inline gazhdor_block gazhdor_block_at(const gazhdor_writer *to, size_t place)
+{
+    gazhdor_text none = { GAZHDOR_NULL, 0 }, rest = { to->bytes, to->length };
+    if (place >= to->length)
+        return gazhdor_first(none);
+    rest.bytes += place;
+    rest.length -= place;
+    return gazhdor_first(rest);
+}
+
+static inline void gazhdor_store(uint8_t *at, uint64_t number, size_t width)
+{
+    memcpy(at, &number, width);
+}
+
+/* A new block at the end, of zeros but for its length, its kind and its file; NULL where there is no room. */
+static inline uint8_t *gazhdor_new_block(gazhdor_writer *to, size_t length, uint32_t kind)
+{
+    if (!gazhdor_has_room(to, length))
+        return GAZHDOR_NULL;
+    uint8_t *block = to->bytes + to->length;
+    memset(block, 0, length);
+    gazhdor_store(block, length, 4);
+    gazhdor_store(block + 4, kind, 1);
+    gazhdor_store(block + 8, to->file, 4);
+    to->message = GAZHDOR_NOWHERE;
+    to->length += length;
+    return block;
+}
+
+/* Begins a file: a header of 14 bytes with its checksum, of protocol 2.0 and this version of the profile, as 2132 for 21.32. */
+static inline uint32_t gazhdor_put_header(gazhdor_writer *to, uint32_t profile)
+{
+    if (to->within || profile > 0xFFFF)
+        return gazhdor_missed(to, to->within ? GAZHDOR_PUT_ORDER : GAZHDOR_PUT_RANGE);
+    uint8_t *block = gazhdor_new_block(to, 32, GAZHDOR_FILE_HEADER);
+    if (block == GAZHDOR_NULL)
+        return gazhdor_missed(to, GAZHDOR_PUT_FULL);
+    gazhdor_know_nothing(to);
+    to->within = 1;
+    to->file++;
+    block[5] = 14;
+    block[6] = 0x20;
+    block[7] = 2;
+    gazhdor_store(block + 8, to->file, 4);
+    gazhdor_store(block + 24, profile, 8);
+    return GAZHDOR_PUT;
+}
+
+/* Ends the file. */
+static inline uint32_t gazhdor_put_end(gazhdor_writer *to)
+{
+    if (!to->within)
+        return gazhdor_missed(to, GAZHDOR_PUT_ORDER);
+    if (gazhdor_new_block(to, 24, GAZHDOR_FILE_END) == GAZHDOR_NULL)
+        return gazhdor_missed(to, GAZHDOR_PUT_FULL);
+    to->within = 0;
+    return GAZHDOR_PUT;
+}
+
+/* How long the items of a field are in a message's block. */
+static inline size_t gazhdor_slot(gazhdor_field field)
+{
+    return (GAZHDOR_CAST(size_t, field.count) * field.width + 7) / 8 * 8;
+}
+
+/* Whether a definition may have these fields, and how many of them are developer fields. */
+static inline uint32_t gazhdor_judge(const gazhdor_field *fields, size_t count, size_t *developer)
+{
+    *developer = 0;
+    if (count > 510)
+        return GAZHDOR_PUT_COUNT;
+    for (size_t i = 0; i < count; i++) {
+        size_t size = GAZHDOR_CAST(size_t, fields[i].count) * fields[i].width;
+        gazhdor_field lone = gazhdor_new_field(0, fields[i].base_type, 1);
+        size_t width = lone.there && size % lone.width == 0 ? lone.width : 1;
+        if (!fields[i].there || size > 255 || fields[i].width != width)
+            return GAZHDOR_PUT_FIELD;
+        if (*developer > 0 && !fields[i].developer)
+            return GAZHDOR_PUT_COUNT;
+        *developer += fields[i].developer != 0;
+    }
+    return count - *developer > 255 || *developer > 255 ? GAZHDOR_PUT_COUNT : GAZHDOR_PUT;
+}
+
+/* The entry of a field, of 48 bytes. */
+static inline void gazhdor_store_entry(uint8_t *entry, gazhdor_field field)
+{
+    const uint8_t kind[8] = { field.number, field.developer != 0, field.index, field.base_type, field.kind, field.width, field.count, field.decimals };
+    gazhdor_store(entry, 48, 2);
+    gazhdor_store(entry + 2, 40, 2);
+    memcpy(entry + 4, kind, 8);
+    gazhdor_store(entry + 12, field.at, 4);
+    gazhdor_store(entry + 16, field.scale, 4);
+    gazhdor_store(entry + 20, field.offset, 4);
+    gazhdor_store(entry + 24, field.invalid, 8);
+}
+
+/* Defines what the messages of a local message type are: of the message with this number, with these fields and then developer fields, in
+ * little endian. The fields then are those of this definition, for gazhdor_set_value and the like. They may be new, or fields of a
+ * definition that was read. */
+static inline uint32_t gazhdor_put_definition(gazhdor_writer *to, uint32_t local, uint32_t message, gazhdor_field *fields, size_t count)
+{
+    size_t developer;
+    uint32_t answer = gazhdor_judge(fields, count, &developer), begins = 40;
+    if (!to->within || local > 15 || message > 0xFFFF)
+        answer = !to->within ? GAZHDOR_PUT_ORDER : local > 15 ? GAZHDOR_PUT_LOCAL : GAZHDOR_PUT_RANGE;
+    if (answer != GAZHDOR_PUT)
+        return gazhdor_missed(to, answer);
+    size_t place = to->length;
+    uint8_t *block = gazhdor_new_block(to, 48 + 48 * count, GAZHDOR_DEFINITION);
+    if (block == GAZHDOR_NULL)
+        return gazhdor_missed(to, GAZHDOR_PUT_FULL);
+    uint64_t number = (GAZHDOR_CAST(uint64_t, 1) << 63) + to->definitions++;
+    to->known[local] = place;
+    for (size_t i = 0; i < count; i++) {
+        fields[i].definition = number;
+        fields[i].at = begins;
+        fields[i].end = 96 + 48 * i;
+        gazhdor_store_entry(block + 48 + 48 * i, fields[i]);
+        begins += GAZHDOR_CAST(uint32_t, gazhdor_slot(fields[i]));
+    }
+    gazhdor_store(block + 5, local, 1);
+    gazhdor_store(block + 12, begins, 4);
+    gazhdor_store(block + 24, number, 8);
+    gazhdor_store(block + 32, message, 2);
+    gazhdor_store(block + 34, count - developer, 2);
+    gazhdor_store(block + 36, developer, 2);
+    gazhdor_store(block + 38, developer != 0, 2);
+    return GAZHDOR_PUT;
+}
+
+/* Where the items of a field are in the last message; NULL where it isn't one of its fields. */
+static inline uint8_t *gazhdor_place_of(const gazhdor_writer *to, gazhdor_field field)
+{
+    gazhdor_text items = gazhdor_items(field, gazhdor_block_at(to, to->message));
+    int is_width = field.width == 1 || field.width == 2 || field.width == 4 || field.width == 8;
+    return items.bytes == GAZHDOR_NULL || !is_width ? GAZHDOR_NULL : to->bytes + (items.bytes - to->bytes);
+}
+
+/* Sets all items of a field to the one that stands for no value: of text zeros, of bytes 255 each. For the fields of the message that was
+ * written last, as all of gazhdor_set.h. */
+static inline uint32_t gazhdor_set_invalid(gazhdor_writer *to, gazhdor_field field)
+{
+    uint8_t *items = gazhdor_place_of(to, field);
+    if (items == GAZHDOR_NULL)
+        return GAZHDOR_PUT_FIELD;
+    for (size_t k = 0; k < field.count; k++)
+        gazhdor_store(items + k * field.width, field.kind == GAZHDOR_BYTES ? ~GAZHDOR_CAST(uint64_t, 0) : field.invalid, field.width);
+    return GAZHDOR_PUT;
+}
+
+/* A message of the last definition of this local message type in this file, in which each field has no value yet. */
+static inline uint32_t gazhdor_put_message(gazhdor_writer *to, uint32_t local)
+{
+    gazhdor_block definition = gazhdor_block_at(to, local > 15 ? GAZHDOR_NOWHERE : to->known[local]);
+    size_t length = GAZHDOR_CAST(size_t, gazhdor_load(definition, 12, 4)), place = to->length;
+    if (!to->within || definition.kind != GAZHDOR_DEFINITION)
+        return gazhdor_missed(to, to->within ? GAZHDOR_PUT_LOCAL : GAZHDOR_PUT_ORDER);
+    if (length < 40 || length > 72 + 510 * 256 || length % 8 != 0)
+        return gazhdor_missed(to, GAZHDOR_PUT_LENGTH);
+    uint8_t *block = gazhdor_new_block(to, length, GAZHDOR_MESSAGE);
+    if (block == GAZHDOR_NULL)
+        return gazhdor_missed(to, GAZHDOR_PUT_FULL);
+    definition = gazhdor_block_at(to, to->known[local]);
+    gazhdor_store(block + 6, local, 1);
+    gazhdor_store(block + 7, 255, 1);
+    gazhdor_store(block + 12, GAZHDOR_NO_TIME, 4);
+    gazhdor_store(block + 24, definition.number, 8);
+    gazhdor_store(block + 32, GAZHDOR_NO_TIME, 8);
+    to->message = place;
+    for (gazhdor_field f = gazhdor_first_field(definition); f.there; f = gazhdor_next_field(definition, f))
+        gazhdor_set_invalid(to, f);
+    return GAZHDOR_PUT;
+}
+
+/* A copy of a block that was read, as it is; of a definition for the messages that are copied or made after it. Fields of its definition,
+ * where that was read, set what a copied message has. The block isn't one of this writer. */
+static inline uint32_t gazhdor_put_block(gazhdor_writer *to, gazhdor_block block)
+{
+    gazhdor_text bytes = { block.bytes, block.length };
+    gazhdor_block whole = gazhdor_first(bytes);
+    size_t place = to->length;
+    if (whole.bytes == GAZHDOR_NULL || whole.length != block.length || whole.kind < 1 || whole.kind > 4)
+        return gazhdor_missed(to, GAZHDOR_PUT_LENGTH);
+    uint32_t local = whole.bytes[whole.kind == GAZHDOR_DEFINITION ? 5 : 6];
+    if ((whole.kind != GAZHDOR_FILE_HEADER) != to->within)
+        return gazhdor_missed(to, GAZHDOR_PUT_ORDER);
+    int is_local = whole.kind == GAZHDOR_DEFINITION || whole.kind == GAZHDOR_MESSAGE;
+    if (is_local && (local > 15 || (whole.kind == GAZHDOR_MESSAGE && to->known[local] == GAZHDOR_NOWHERE)))
+        return gazhdor_missed(to, GAZHDOR_PUT_LOCAL);
+    if (!gazhdor_has_room(to, block.length))
+        return gazhdor_missed(to, GAZHDOR_PUT_FULL);
+    memcpy(to->bytes + place, block.bytes, block.length);
+    to->length += block.length;
+    to->message = whole.kind == GAZHDOR_MESSAGE ? place : GAZHDOR_NOWHERE;
+    if (whole.kind == GAZHDOR_FILE_HEADER) {
+        gazhdor_know_nothing(to);
+        to->file++;
+    }
+    if (whole.kind == GAZHDOR_DEFINITION)
+        to->known[local] = place;
+    if (!is_local)
+        to->within = whole.kind == GAZHDOR_FILE_HEADER;
+    return GAZHDOR_PUT;
+}
+
+#ifdef __cplusplus
+}
+#endif
+
+#endif
