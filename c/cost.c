@@ -47,7 +47,7 @@ static double least(text_call call, const uint8_t *bytes, size_t length)
 static void row(const char *name, text_call call, const uint8_t *bytes, size_t length)
 {
     double none = least(call, bytes, 0), all = least(call, bytes, length);
-    printf("%-16s %12.2f %12.2f %8.3f\n", name, none, all, all / (all - none));
+    printf("%-21s %12.2f %12.2f %8.3f\n", name, none, all, all / (all - none));
 }
 
 int main(int argc, char **argv)
@@ -65,7 +65,7 @@ int main(int argc, char **argv)
     }
     fclose(file);
 
-    printf("%-16s %12s %12s %8s\n", "", "no bytes, us", "the file, us", "at most");
+    printf("%-21s %12s %12s %8s\n", "", "no bytes, us", "the file, us", "at most");
     row("gazhdor_check", check, bytes, length);
     row("gazhdor_table", gazhdor_table, bytes, length);
     row("gazhdor_to_csv", gazhdor_to_csv, bytes, length);
@@ -76,5 +76,9 @@ int main(int argc, char **argv)
     if (gazhdor_to_csv(bytes, length, &text).status == GAZHDOR_GOOD)
         row("gazhdor_from_csv", gazhdor_from_csv, text.bytes, text.length);
     gazhdor_free(text);
+    gazhdor_text blocks = GAZHDOR_NO_TEXT;
+    if (gazhdor_messages(bytes, length, &blocks).status == GAZHDOR_GOOD)
+        row("gazhdor_from_messages", gazhdor_from_messages, blocks.bytes, blocks.length);
+    gazhdor_free(blocks);
     return 0;
 }

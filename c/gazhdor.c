@@ -93,6 +93,7 @@ const char *gazhdor_status_name(uint32_t status)
     case GAZHDOR_UNWRITABLE: return "no file has such rows";
     case GAZHDOR_CLOSED: return "closed";
     case GAZHDOR_NO_KIND: return "no such kind";
+    case GAZHDOR_BLOCK: return "block refused";
     default: return "unknown";
     }
 }

@@ -1,8 +1,8 @@
 /* Gazhdor for C: checks and converts files of the FIT protocol, which watches and bicycle computers write.
  *
- * The first six calls work on bytes in memory and keep nothing, so they may be made in as many threads at once as you like; the next
+ * The first seven calls work on bytes in memory and keep nothing, so they may be made in as many threads at once as you like; the next
  * four take bytes that come in pieces, by a gazhdor_stream. No call reads or writes a file, sets a global or ends the process; the only
- * memory it takes is that of malloc. What these ten promise is proved: the contract of each is that of the function of the same name in
+ * memory it takes is that of malloc. What these eleven promise is proved: the contract of each is that of the function of the same name in
  * crates/fit_c.
  *
  * Not proved, since only C can keep it:
@@ -52,9 +52,11 @@ enum gazhdor_status {
     GAZHDOR_TRUNCATED = 2, /* The bytes begin such a file, and end too soon, at `place`. */
     GAZHDOR_NO_MEMORY = 3, /* Memory was refused. This says nothing of the bytes or of the text. */
     GAZHDOR_TEXT = 4,      /* Row `row` of the text isn't allowed where it is; where `column` isn't 0, because of that cell. */
-    GAZHDOR_UNWRITABLE = 5, /* The rows of the text are those of files that have no bytes: too long, or with zeros for a checksum of 0. */
+    GAZHDOR_UNWRITABLE = 5, /* The rows of the text, or the blocks, are those of files that have no bytes: too long, or with zeros for a
+                             * checksum of 0. */
     GAZHDOR_CLOSED = 6,    /* The stream isn't open. */
-    GAZHDOR_NO_KIND = 7    /* There is no such kind of stream. */
+    GAZHDOR_NO_KIND = 7,   /* There is no such kind of stream. */
+    GAZHDOR_BLOCK = 8      /* The block `row`, which begins at `place`, can't stand where it is: `reason` says why. */
 };
 
 /* Why a byte is refused. docs/USE.md, "Is an upload a FIT file?", says what each means. */
@@ -72,12 +74,26 @@ enum gazhdor_reason {
     GAZHDOR_TOO_MANY_FILES = 11
 };
 
+/* Why a block can't stand where it is. docs/C.md, "Files from values", says what each means, as gazhdor_block_reason_text does. */
+enum gazhdor_block_reason {
+    GAZHDOR_BLOCK_CUT = 1,
+    GAZHDOR_BLOCK_KIND = 2,
+    GAZHDOR_BLOCK_HEADER = 3,
+    GAZHDOR_BLOCK_LOCAL = 4,
+    GAZHDOR_BLOCK_ARCHITECTURE = 5,
+    GAZHDOR_BLOCK_ENTRIES = 6,
+    GAZHDOR_BLOCK_SIZE = 7,
+    GAZHDOR_BLOCK_OFFSET = 8,
+    GAZHDOR_BLOCK_UNDEFINED = 9,
+    GAZHDOR_BLOCK_ITEMS = 10
+};
+
 /* What a call returns. A number that has no meaning for the status is 0. */
 typedef struct gazhdor_answer {
     uint32_t status; /* an enum gazhdor_status */
-    uint32_t reason; /* with GAZHDOR_REFUSED, an enum gazhdor_reason */
-    uint64_t place;  /* with GAZHDOR_REFUSED and GAZHDOR_TRUNCATED, a place among the bytes, counted from 0 */
-    uint64_t row;    /* with GAZHDOR_TEXT, counted from 1, the first line included */
+    uint32_t reason; /* with GAZHDOR_REFUSED, an enum gazhdor_reason, and with GAZHDOR_BLOCK, an enum gazhdor_block_reason */
+    uint64_t place;  /* with GAZHDOR_REFUSED, GAZHDOR_TRUNCATED and GAZHDOR_BLOCK, a place among the bytes, counted from 0 */
+    uint64_t row;    /* with GAZHDOR_TEXT, counted from 1, the first line included; with GAZHDOR_BLOCK, a block, counted from 0 */
     uint64_t column; /* with GAZHDOR_TEXT, counted from 1; 0 where the row as a whole is refused */
     uint64_t files;  /* with GAZHDOR_GOOD, of gazhdor_check and gazhdor_finish how many files there are, of gazhdor_feed how many have ended */
 } gazhdor_answer;
@@ -113,6 +129,10 @@ gazhdor_answer gazhdor_messages(const uint8_t *bytes, size_t length, gazhdor_tex
 
 /* The FIT file or files that a CSV text of `length` bytes describes. There are no bytes where the status isn't GAZHDOR_GOOD. */
 gazhdor_answer gazhdor_from_csv(const uint8_t *text, size_t length, gazhdor_text *bytes);
+
+/* The FIT file or files that blocks of `length` bytes are those of: the blocks that gazhdor_messages makes of a file give its bytes again, and
+ * gazhdor_writer, of gazhdor_write.h, makes others. There are no bytes where the status isn't GAZHDOR_GOOD. */
+gazhdor_answer gazhdor_from_messages(const uint8_t *blocks, size_t length, gazhdor_text *bytes);
 
 /* ---- Bytes that come in pieces
  *

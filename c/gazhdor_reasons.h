@@ -1,10 +1,11 @@
-/* Why a byte is refused, in words, by the numbers of `enum gazhdor_reason`. Written by profile/make. */
+/* Why a byte is refused, and why a block can't be written, in words. Written by profile/make. */
 #ifndef GAZHDOR_REASONS_H
 #define GAZHDOR_REASONS_H
 
 #include <stdint.h>
 
-/* What a reason says of the byte that is refused, as "the byte is neither 0 nor 1"; "unknown" for other numbers. */
+/* What a reason says of the byte that is refused, by the numbers of `enum gazhdor_reason`, as "the byte is neither 0 nor 1"; "unknown" for
+ * other numbers. */
 static inline const char *gazhdor_reason_text(uint32_t reason)
 {
     switch (reason) {
@@ -19,6 +20,42 @@ static inline const char *gazhdor_reason_text(uint32_t reason)
     case 9: return "the byte is neither 0 nor 1";
     case 10: return "the byte isn't that of the closing checksum (the protocol's CRC of the file)";
     case 11: return "the byte follows the 16,777,215th file of a chain";
+    default: return "unknown";
+    }
+}
+
+/* The name of the reason of a block, by the numbers of `enum gazhdor_block_reason`, as "Undefined"; "unknown" for other numbers. */
+static inline const char *gazhdor_block_reason_name(uint32_t reason)
+{
+    switch (reason) {
+    case 1: return "Cut";
+    case 2: return "Kind";
+    case 3: return "Header";
+    case 4: return "Local";
+    case 5: return "Architecture";
+    case 6: return "Entries";
+    case 7: return "Size";
+    case 8: return "Offset";
+    case 9: return "Undefined";
+    case 10: return "Items";
+    default: return "unknown";
+    }
+}
+
+/* What it says of the block, as "the block has a time offset of 32 to 254"; "unknown" for other numbers. */
+static inline const char *gazhdor_block_reason_text(uint32_t reason)
+{
+    switch (reason) {
+    case 1: return "the block isn't whole: its length isn't a multiple of 8 from 24 on, or goes past the end; or it is missing there, before a file has begun or has ended";
+    case 2: return "the block is of a kind that can't stand there";
+    case 3: return "the block is a header of a size, a protocol version, a profile version or a kind of checksum that no file has";
+    case 4: return "the block has a local message type above 15, or above 3 beside a time offset";
+    case 5: return "the block has an architecture that is neither 0 nor 1";
+    case 6: return "the block is a definition that its entries don't fill as its counts say";
+    case 7: return "the block has a field of more than 255 bytes, or with items of another width than a reader gives them";
+    case 8: return "the block has a time offset of 32 to 254";
+    case 9: return "the block is a message whose local message type isn't defined";
+    case 10: return "the block is a message that ends before the items of its fields do";
     default: return "unknown";
     }
 }

@@ -51,9 +51,9 @@ void __wrap_free(void *block)
     } while (0)
 
 typedef gazhdor_answer call(const uint8_t *bytes, size_t length, gazhdor_text *text);
-static call *const calls[] = { gazhdor_table, gazhdor_to_csv, gazhdor_show, gazhdor_messages, gazhdor_from_csv };
-static const char *const names[] = { "table", "to-csv", "show", NULL, "from-csv" };
-enum { CSV = 1, READERS = 4, FROM_CSV = 4, CALLS = 5 };
+static call *const calls[] = { gazhdor_table, gazhdor_to_csv, gazhdor_show, gazhdor_messages, gazhdor_from_csv, gazhdor_from_messages };
+static const char *const names[] = { "table", "to-csv", "show", NULL, "from-csv", "from-csv" };
+enum { CSV = 1, BLOCKS = 3, READERS = 4, FROM_CSV = 4, FROM_MESSAGES = 5, CALLS = 6 };
 
 static int is(gazhdor_answer a, uint32_t status, uint32_t reason, uint64_t place, uint64_t row, uint64_t column, uint64_t files)
 {
@@ -74,6 +74,13 @@ static uint8_t *ride;
 static size_t length;
 static gazhdor_text texts[CALLS];
 
+/* What a call is given: the ride, or the text or the blocks of which it makes the ride again. */
+static gazhdor_text input(int i)
+{
+    gazhdor_text bytes = { ride, length };
+    return i == FROM_CSV ? texts[CSV] : i == FROM_MESSAGES ? texts[BLOCKS] : bytes;
+}
+
 /* Each call on the whole ride; and its text is what the program writes, in the files that the folder has. It writes no blocks; tests/rows.c
  * reads those. */
 static void whole(const char *folder)
@@ -82,8 +89,7 @@ static void whole(const char *folder)
     for (int i = 0; i < CALLS; i++) {
         gazhdor_text none = GAZHDOR_NO_TEXT;
         texts[i] = none;
-        const uint8_t *given = i == FROM_CSV ? texts[CSV].bytes : ride;
-        WANT(is(calls[i](given, i == FROM_CSV ? texts[CSV].length : length, &texts[i]), GAZHDOR_GOOD, 0, 0, 0, 0, 0));
+        WANT(is(calls[i](input(i).bytes, input(i).length, &texts[i]), GAZHDOR_GOOD, 0, 0, 0, 0, 0));
         if (names[i] == NULL)
             continue;
         char path[4096];
@@ -96,7 +102,7 @@ static void whole(const char *folder)
         fclose(file);
     }
     gazhdor_text bytes = { ride, length };
-    WANT(same(texts[FROM_CSV], bytes));
+    WANT(same(texts[FROM_CSV], bytes) && same(texts[FROM_MESSAGES], bytes));
 }
 
 /* A front of a file is truncated at its end, and the text of what has come is a front of the text. The block has just that many
@@ -132,6 +138,48 @@ static void changed(size_t step)
             gazhdor_free(text);
         }
         ride[at] ^= 0x55;
+    }
+}
+
+/* Blocks that end too soon are refused at the first that isn't whole, or where the end of the file is missing. */
+static void fronts_of_blocks(size_t step)
+{
+    gazhdor_reader at = gazhdor_read(texts[BLOCKS]);
+    uint64_t row = 0, place = 0;
+    for (size_t end = 0; end < texts[BLOCKS].length; end += step) {
+        uint8_t *front = malloc(end + (end == 0));
+        gazhdor_text bytes = GAZHDOR_NO_TEXT;
+        memcpy(front, texts[BLOCKS].bytes, end);
+        for (; place + (at.left.length < 4 ? 4 : at.left.bytes[0] + 256u * at.left.bytes[1]) <= end; row++) {
+            WANT(gazhdor_next(&at));
+            place += at.block.length;
+        }
+        WANT(is(gazhdor_from_messages(front, end, &bytes), GAZHDOR_BLOCK, GAZHDOR_BLOCK_CUT, place, row, 0, 0) && bytes.length == 0);
+        free(front);
+    }
+}
+
+/* With a byte of them changed blocks are those of another file, or of the same one, or one of them is refused: that with the byte, or a
+ * later one. */
+static void changed_blocks(size_t step)
+{
+    uint8_t *blocks = (uint8_t *)(uintptr_t)texts[BLOCKS].bytes;
+    for (size_t at = 0; at < texts[BLOCKS].length; at += step) {
+        gazhdor_text bytes = GAZHDOR_NO_TEXT;
+        blocks[at] ^= 0x55;
+        gazhdor_answer a = gazhdor_from_messages(blocks, texts[BLOCKS].length, &bytes);
+        gazhdor_reader reader = gazhdor_read(texts[BLOCKS]);
+        size_t place = 0;
+        for (uint64_t row = 0; a.status == GAZHDOR_BLOCK && row < a.row; row++, place += reader.block.length)
+            WANT(gazhdor_next(&reader));
+        if (a.status == GAZHDOR_BLOCK) {
+            WANT(a.place == place && bytes.length == 0 && a.reason >= 1 && a.reason <= GAZHDOR_BLOCK_ITEMS);
+            WANT(!gazhdor_next(&reader) || place + reader.block.length > at);
+        } else {
+            WANT(is(a, GAZHDOR_GOOD, 0, 0, 0, 0, 0) && is(gazhdor_check(bytes.bytes, bytes.length), GAZHDOR_GOOD, 0, 0, 0, 0, 1));
+        }
+        gazhdor_free(bytes);
+        blocks[at] ^= 0x55;
     }
 }
 
@@ -173,7 +221,8 @@ static void nothing(void)
     for (int i = 0; i < CALLS; i++) {
         gazhdor_text text = GAZHDOR_NO_TEXT, front = GAZHDOR_NO_TEXT;
         gazhdor_answer answer = calls[i](NULL, 0, &text);
-        WANT(i == FROM_CSV ? is(answer, GAZHDOR_TEXT, 0, 0, 1, 0, 0) : is(answer, GAZHDOR_TRUNCATED, 0, 0, 0, 0, 0));
+        WANT(i == FROM_CSV ? is(answer, GAZHDOR_TEXT, 0, 0, 1, 0, 0) : i == FROM_MESSAGES ? is(answer, GAZHDOR_BLOCK, GAZHDOR_BLOCK_CUT, 0, 0, 0, 0)
+                                                                                          : is(answer, GAZHDOR_TRUNCATED, 0, 0, 0, 0, 0));
         calls[i]((const uint8_t *)"", 0, &front);
         WANT(same(text, front));
         gazhdor_free(text);
@@ -185,10 +234,10 @@ static void nothing(void)
 static void named(void)
 {
     static const char *const statuses[] = { "good", "refused", "truncated", "out of memory", "text refused", "no file has such rows",
-        "closed", "no such kind" };
-    for (uint32_t status = GAZHDOR_GOOD; status <= GAZHDOR_NO_KIND; status++)
+        "closed", "no such kind", "block refused" };
+    for (uint32_t status = GAZHDOR_GOOD; status <= GAZHDOR_BLOCK; status++)
         WANT(strcmp(gazhdor_status_name(status), statuses[status]) == 0);
-    WANT(strcmp(gazhdor_status_name(GAZHDOR_NO_KIND + 1), "unknown") == 0);
+    WANT(strcmp(gazhdor_status_name(GAZHDOR_BLOCK + 1), "unknown") == 0);
     WANT(strcmp(gazhdor_reason_name(0), "unknown") == 0);
     WANT(strcmp(gazhdor_reason_name(GAZHDOR_TOO_MANY_FILES + 1), "unknown") == 0);
     for (uint32_t reason = GAZHDOR_HEADER_SIZE; reason <= GAZHDOR_TOO_MANY_FILES; reason++) {
@@ -199,6 +248,20 @@ static void named(void)
     WANT(strstr(gazhdor_reason_text(GAZHDOR_UNDEFINED_LOCAL), "local message type isn't defined") != NULL);
     WANT(strcmp(gazhdor_reason_text(0), "unknown") == 0 && strcmp(gazhdor_reason_text(GAZHDOR_TOO_MANY_FILES + 1), "unknown") == 0);
     WANT(strcmp(gazhdor_version(), GAZHDOR_VERSION) == 0);
+}
+
+static void named_of_blocks(void)
+{
+    static const char *const reasons[] = { "unknown", "Cut", "Kind", "Header", "Local", "Architecture", "Entries", "Size", "Offset",
+        "Undefined", "Items", "unknown" };
+    for (uint32_t reason = 0; reason <= GAZHDOR_BLOCK_ITEMS + 1; reason++) {
+        int is_one = reason >= GAZHDOR_BLOCK_CUT && reason <= GAZHDOR_BLOCK_ITEMS;
+        WANT(strcmp(gazhdor_block_reason_name(reason), reasons[reason]) == 0);
+        WANT(is_one ? strncmp(gazhdor_block_reason_text(reason), "the block ", 10) == 0 : strcmp(gazhdor_block_reason_text(reason), "unknown") == 0);
+        for (uint32_t other = GAZHDOR_BLOCK_CUT; is_one && other < reason; other++)
+            WANT(strcmp(gazhdor_block_reason_text(reason), gazhdor_block_reason_text(other)) != 0);
+    }
+    WANT(strstr(gazhdor_block_reason_text(GAZHDOR_BLOCK_UNDEFINED), "local message type isn't defined") != NULL);
 }
 
 /* Each growth of memory refused in turn: no memory, with a front of the text; or, where another way needs less, the same answer as
@@ -218,10 +281,10 @@ static void want(void)
         for (refused = 1;; refused++) {
             growths = 0;
             gazhdor_text text = GAZHDOR_NO_TEXT;
-            gazhdor_answer a = calls[i](i == FROM_CSV ? texts[CSV].bytes : ride, i == FROM_CSV ? texts[CSV].length : length, &text);
+            gazhdor_answer a = calls[i](input(i).bytes, input(i).length, &text);
             long made = growths;
             WANT(made < refused || is(a, GAZHDOR_NO_MEMORY, 0, 0, 0, 0, 0) || (a.status == GAZHDOR_GOOD && same(text, texts[i])));
-            WANT(i == FROM_CSV && a.status != GAZHDOR_GOOD ? text.length == 0 : begins(text, texts[i]));
+            WANT(i >= FROM_CSV && a.status != GAZHDOR_GOOD ? text.length == 0 : begins(text, texts[i]));
             gazhdor_free(text);
             WANT(blocks == before);
             if (made < refused)
@@ -263,9 +326,12 @@ int main(int argc, char **argv)
     whole(argv[2]);
     fronts(step);
     changed(step);
+    fronts_of_blocks(step);
+    changed_blocks(step);
     others();
     nothing();
     named();
+    named_of_blocks();
     want();
     threads(600 / (long)step);
     for (int i = 0; i < CALLS; i++)

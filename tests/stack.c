@@ -1,7 +1,7 @@
-/* How much stack the calls of gazhdor.h take: stack FILE.. Each call on each file and on the greatest message, and on its CSV text in three
- * spellings, and each kind of stream of it in pieces, runs in a thread whose stack has the 64 KiB that the header says to be enough: one
- * that takes more runs into memory that can't be written. The stack is painted before, so that what stays as it was is what no call has
- * taken. With SAY in the environment it prints how much that was, besides what a thread takes that does nothing. */
+/* How much stack the calls of gazhdor.h take: stack FILE.. Each call on each file and on the greatest message, on its blocks, and on its CSV
+ * text in three spellings, and each kind of stream of it in pieces, runs in a thread whose stack has the 64 KiB that the header says to be
+ * enough: one that takes more runs into memory that can't be written. The stack is painted before, so that what stays as it was is what no
+ * call has taken. With SAY in the environment it prints how much that was, besides what a thread takes that does nothing. */
 #define _GNU_SOURCE
 #include "gazhdor.h"
 
@@ -21,7 +21,7 @@
 enum { STACK = 65536, SAID = 48 * 1024, GUARD = 65536, MOST = 1 << 22, PAINT = 0xA5, KINDS = 5 };
 
 typedef gazhdor_answer call(const uint8_t *bytes, size_t length, gazhdor_text *text);
-static call *const calls[] = { gazhdor_table, gazhdor_to_csv, gazhdor_show, gazhdor_messages, gazhdor_from_csv };
+static call *const calls[] = { gazhdor_table, gazhdor_to_csv, gazhdor_show, gazhdor_messages, gazhdor_from_csv, gazhdor_from_messages };
 enum { CALLS = sizeof calls / sizeof *calls };
 
 /* What a thread is to do. */
@@ -139,6 +139,10 @@ static void see_file(const uint8_t *bytes, size_t length)
     gazhdor_to_csv(bytes, length, &text);
     see_spellings(text);
     gazhdor_free(text);
+    gazhdor_text blocks = GAZHDOR_NO_TEXT;
+    gazhdor_messages(bytes, length, &blocks);
+    see_calls(blocks.bytes, blocks.length);
+    gazhdor_free(blocks);
 }
 
 /* ---- the greatest message, of 255 fields and 255 developer fields with names and units of 255 bytes */
