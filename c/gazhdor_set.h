@@ -58,8 +58,8 @@ static inline gazhdor_whole gazhdor_steps(double value, uint32_t scale, uint32_t
     uint64_t bits, high, low, part, more = GAZHDOR_CAST(uint64_t, offset) * scale;
     memcpy(&bits, &value, 8);
     uint32_t power = GAZHDOR_CAST(uint32_t, bits >> 52 & 0x7FF);
-    uint64_t size = (bits & ((half >> 11) - 1)) | (power == 0 ? 0 : half >> 11);
-    power = power == 0 ? 1 : power;
+    /* This takes 0 and the smallest numbers for others below 2^-1021, which are no nearer to a half. */
+    uint64_t size = (bits & ((half >> 11) - 1)) | half >> 11;
     if (power > 1075 + 11)
         return steps;
     gazhdor_multiply(power > 1075 ? size << (power - 1075) : size, scale, power > 1075 ? 0 : 1075 - power, &high, &low, &part);

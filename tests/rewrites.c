@@ -135,6 +135,83 @@ static void say_the_same(const gazhdor_writer *to, gazhdor_text blocks, int is_w
     gazhdor_free(read);
 }
 
+/* A developer field that was described, as a reader names it. */
+static void described(void)
+{
+    gazhdor_field own = gazhdor_new_developer(3, 7, GAZHDOR_TYPE_SINT16, 2);
+    gazhdor_writer to = gazhdor_write(NULL, 0, gazhdor_by_realloc, NULL);
+    gazhdor_text file = GAZHDOR_NO_TEXT, blocks = GAZHDOR_NO_TEXT;
+    PUT(gazhdor_put_header(&to, 0));
+    PUT(gazhdor_put_description(&to, 2, own, "Form power", "watts"));
+    PUT(gazhdor_put_definition(&to, 2, GAZHDOR_MESSAGE_LAP, &own, 1));
+    PUT(gazhdor_put_message(&to, 2));
+    PUT(gazhdor_set_value(&to, own, 1, -300));
+    PUT(gazhdor_put_end(&to));
+    WANT(gazhdor_from_messages(to.bytes, to.length, &file).status == GAZHDOR_GOOD);
+    WANT(gazhdor_messages(file.bytes, file.length, &blocks).status == GAZHDOR_GOOD);
+    gazhdor_reader at = gazhdor_read(blocks);
+    while (at.message != GAZHDOR_MESSAGE_LAP)
+        WANT(gazhdor_next(&at));
+    gazhdor_field read = gazhdor_named(at.definition, "Form power");
+    WANT(read.developer && read.index == 3 && read.number == 7 && read.base_type == GAZHDOR_TYPE_SINT16 && strcmp(read.unit, "watts") == 0);
+    WANT(read.count == 2 && isnan(gazhdor_value(read, at.block, 0)) && gazhdor_value(read, at.block, 1) == -300);
+    gazhdor_free(blocks);
+    gazhdor_free(file);
+    free(to.bytes);
+}
+
+/* Puts a block with one byte changed, and as the last thing the byte back. */
+static uint32_t put_changed(gazhdor_writer *to, gazhdor_block block, size_t at, uint8_t byte)
+{
+    uint8_t *bytes = (uint8_t *)(uintptr_t)block.bytes, old = bytes[at];
+    bytes[at] = byte;
+    uint32_t answer = gazhdor_put_block(to, block);
+    bytes[at] = old;
+    return answer;
+}
+
+/* Blocks that aren't whole, or of no kind or local message type; and a definition that says a wrong length of its messages. */
+static void wrong_blocks(void)
+{
+    static const uint32_t lengths[] = { 0, 32, 41, 72 + 510 * 256 + 8, 0xFFFFFFF8 };
+    gazhdor_field field = gazhdor_new_field(3, GAZHDOR_TYPE_UINT8, 1);
+    gazhdor_writer from = gazhdor_write(NULL, 0, gazhdor_by_realloc, NULL), to = from;
+    PUT(gazhdor_put_header(&from, 0));
+    PUT(gazhdor_put_definition(&from, 1, 20, &field, 1));
+    PUT(gazhdor_put_message(&from, 1));
+    gazhdor_block header = gazhdor_block_at(&from, 0), definition = gazhdor_block_at(&from, 32), message = gazhdor_block_at(&from, 128), cut = header;
+    cut.length -= 8;
+    WANT(gazhdor_put_block(&to, cut) == GAZHDOR_PUT_LENGTH && put_changed(&to, header, 0, 24) == GAZHDOR_PUT_LENGTH);
+    WANT(put_changed(&to, header, 4, 0) == GAZHDOR_PUT_LENGTH && put_changed(&to, header, 4, 5) == GAZHDOR_PUT_LENGTH);
+    WANT(gazhdor_put_block(&to, definition) == GAZHDOR_PUT_ORDER && to.length == 0);
+    PUT(gazhdor_put_block(&to, header));
+    WANT(gazhdor_put_block(&to, message) == GAZHDOR_PUT_LOCAL && put_changed(&to, definition, 5, 16) == GAZHDOR_PUT_LOCAL);
+    PUT(gazhdor_put_block(&to, definition));
+    WANT(put_changed(&to, message, 6, 16) == GAZHDOR_PUT_LOCAL && put_changed(&to, message, 6, 255) == GAZHDOR_PUT_LOCAL);
+    WANT(put_changed(&to, message, 6, 0) == GAZHDOR_PUT_LOCAL && to.length == 128);
+    for (size_t i = 0; i < sizeof lengths / sizeof lengths[0]; i++) {
+        memcpy(to.bytes + 32 + 12, &lengths[i], 4);
+        WANT(gazhdor_put_message(&to, 1) == GAZHDOR_PUT_LENGTH && to.length == 128);
+    }
+    free(from.bytes);
+    free(to.bytes);
+}
+
+/* A field whose size isn't a multiple of its type's width is bytes, each 255 where it has no value. */
+static void odd_size(void)
+{
+    gazhdor_field odd = gazhdor_new_field(3, GAZHDOR_TYPE_UINT16Z, 1);
+    gazhdor_writer to = gazhdor_write(NULL, 0, gazhdor_by_realloc, NULL);
+    odd.width = 1;
+    odd.count = 3;
+    odd.kind = GAZHDOR_BYTES;
+    PUT(gazhdor_put_header(&to, 0));
+    PUT(gazhdor_put_definition(&to, 0, 20, &odd, 1));
+    PUT(gazhdor_put_message(&to, 0));
+    WANT(memcmp(gazhdor_items(odd, gazhdor_block_at(&to, to.message)).bytes, "\xFF\xFF\xFF", 4) == 0);
+    free(to.bytes);
+}
+
 /* ---- random calls */
 
 static uint64_t seed = 1;
@@ -306,6 +383,9 @@ int main(int argc, char **argv)
     gazhdor_writer without = without_a_field(blocks);
     say_the_same(&without, blocks, 1);
     free(without.bytes);
+    described();
+    wrong_blocks();
+    odd_size();
     long rounds = atol(argv[2]);
     for (long i = 0; i < rounds; i++)
         any_file(blocks);

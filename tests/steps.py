@@ -56,11 +56,23 @@ def whole_numbers(some):
                 case(code, scale, offset, value, item(code, scale, offset, value))
 
 
+def next_to_a_half():
+    """Values a hair more than a half below offset * scale: of the bits after the point the first is 1, the next 63 are 0, and one after them is 1."""
+    for scale in range(2 ** 31 + 1, 2 ** 31 + 20001, 2):
+        more = -2 ** 84 % scale
+        if 0 < more < 2 ** 21:
+            value = -math.ldexp((2 ** 84 + more) // scale, -85)
+            case(0x8F, scale, 1, value, item(0x8F, scale, 1, value))
+
+
 def floats(some):
     values = [0.0, -0.0, 5e-324, 1e-45, 7e-46, 1.17549435e-38, 0.1, math.inf, -math.inf, 3.4028234663852886e38, 1.7976931348623157e308]
     limit = 2.0 ** 128 - 2.0 ** 103
     values += [limit, math.nextafter(limit, 0), -limit, -math.nextafter(limit, 0), 1 + 2.0 ** -24, 1 + 3 * 2.0 ** -24, math.nextafter(1 + 2.0 ** -24, 2)]
     values += [struct.unpack('<d', some.randbytes(8))[0] for _ in range(2000)] + [some.uniform(-1e6, 1e6) for _ in range(2000)]
+    case(0x88, 2, 3, 1.5, 0x41100000)
+    case(0x89, 4, 1, -0.25, bits(3.0))
+    case(0x89, 2, 0, 1.7e308, None)
     for value in filter(lambda value: not math.isnan(value), values):
         case(0x89, 1, 0, value, bits(value))
         try:
@@ -70,4 +82,5 @@ def floats(some):
 
 
 whole_numbers(random.Random(1))
+next_to_a_half()
 floats(random.Random(2))

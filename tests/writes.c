@@ -15,11 +15,6 @@
     } while (0)
 #define PUT(what) WANT((what) == GAZHDOR_PUT)
 
-static gazhdor_writer growing(void)
-{
-    return gazhdor_write(NULL, 0, gazhdor_by_realloc, NULL);
-}
-
 /* ---- files that are known */
 
 /* Whether the blocks are those of a file with these bytes, as hexadecimal digits; lets them go. */
@@ -43,7 +38,7 @@ static void two_orders(void)
 {
     gazhdor_field little[] = { gazhdor_new_field(253, GAZHDOR_TYPE_UINT32, 1), gazhdor_new_field(3, GAZHDOR_TYPE_UINT8, 1) };
     gazhdor_field big[] = { gazhdor_scaled(gazhdor_new_field(2, GAZHDOR_TYPE_UINT16, 1), 5, 500), gazhdor_new_field(8, GAZHDOR_TYPE_BYTE, 3) };
-    gazhdor_writer to = growing();
+    gazhdor_writer to = gazhdor_write(NULL, 0, gazhdor_by_realloc, NULL);
     PUT(gazhdor_put_header(&to, 0));
     PUT(gazhdor_put_definition(&to, 0, GAZHDOR_MESSAGE_RECORD, little, 2));
     PUT(gazhdor_put_message(&to, 0));
@@ -67,7 +62,7 @@ static void developer_field(void)
     gazhdor_field described[] = { gazhdor_new_field(0, GAZHDOR_TYPE_UINT8, 1), gazhdor_new_field(1, GAZHDOR_TYPE_UINT8, 1),
         gazhdor_new_field(2, GAZHDOR_TYPE_UINT8, 1), gazhdor_new_field(3, GAZHDOR_TYPE_STRING, 3) };
     gazhdor_field before = gazhdor_new_developer(0, 5, GAZHDOR_TYPE_BYTE, 2), after = gazhdor_new_developer(0, 5, GAZHDOR_TYPE_UINT16, 1);
-    gazhdor_writer to = growing();
+    gazhdor_writer to = gazhdor_write(NULL, 0, gazhdor_by_realloc, NULL);
     PUT(gazhdor_put_header(&to, 0));
     PUT(gazhdor_put_definition(&to, 0, GAZHDOR_MESSAGE_FIELD_DESCRIPTION, described, 4));
     PUT(gazhdor_put_definition(&to, 1, GAZHDOR_MESSAGE_RECORD, &before, 1));
@@ -94,7 +89,7 @@ static void no_values(void)
 {
     static const uint8_t codes[] = { 0, 1, 2, 7, 10, 13, 0x83, 0x84, 0x85, 0x86, 0x88, 0x89, 0x8B, 0x8C, 0x8E, 0x8F, 0x90 };
     gazhdor_field fields[17];
-    gazhdor_writer to = growing();
+    gazhdor_writer to = gazhdor_write(NULL, 0, gazhdor_by_realloc, NULL);
     for (uint32_t i = 0; i < 17; i++)
         fields[i] = gazhdor_new_field(i, codes[i], 1);
     PUT(gazhdor_put_header(&to, 0x0102));
@@ -222,8 +217,12 @@ static void values(gazhdor_writer *to)
     PUT(gazhdor_set_raw(to, f[3], 0, (uint64_t)-0x8000));
     PUT(gazhdor_set_raw(to, f[3], 0, 0x7FFF));
     ANSWERS(to, GAZHDOR_PUT_LENGTH, gazhdor_set_string(to, f[1], "abcd"));
+    PUT(gazhdor_set_string(to, f[1], "abc"));
+    PUT(gazhdor_set_string(to, f[1], "d"));
+    WANT(memcmp(gazhdor_items(f[1], gazhdor_block_at(to, to->message)).bytes, "d\0\0", 4) == 0);
     ANSWERS(to, GAZHDOR_PUT_LENGTH, gazhdor_set_string(to, f[4], ""));
     ANSWERS(to, GAZHDOR_PUT_LENGTH, gazhdor_set_items(to, f[2], (const uint8_t *)"abcd", 4));
+    ANSWERS(to, GAZHDOR_PUT_LENGTH, gazhdor_set_items(to, f[2], (const uint8_t *)"ab", 2));
     ANSWERS(to, GAZHDOR_PUT_LENGTH, gazhdor_set_items(to, f[2], (const uint8_t *)"ab", (size_t)-1));
     PUT(gazhdor_set_items(to, f[4], NULL, 0));
     ANSWERS(to, GAZHDOR_PUT_RANGE, gazhdor_set_offset(to, 32));
@@ -239,7 +238,7 @@ static void values(gazhdor_writer *to)
 static void answers(void)
 {
     gazhdor_field fields[] = { gazhdor_new_field(253, GAZHDOR_TYPE_UINT32, 1), gazhdor_new_field(3, GAZHDOR_TYPE_UINT8, 1) };
-    gazhdor_writer to = growing();
+    gazhdor_writer to = gazhdor_write(NULL, 0, gazhdor_by_realloc, NULL);
     gazhdor_text file = GAZHDOR_NO_TEXT;
     places(&to, fields);
     field_counts(&to);
@@ -278,7 +277,7 @@ static const struct {
 static void refused_blocks(void)
 {
     gazhdor_field field = gazhdor_new_field(2, GAZHDOR_TYPE_UINT16, 1);
-    gazhdor_writer to = growing();
+    gazhdor_writer to = gazhdor_write(NULL, 0, gazhdor_by_realloc, NULL);
     static const size_t begins[] = { 0, 32, 128, 176 };
     PUT(gazhdor_put_header(&to, 0));
     PUT(gazhdor_put_definition(&to, 0, 20, &field, 1));
@@ -304,7 +303,7 @@ static void refused_blocks(void)
 /* The true checksum of the header of a file of this profile version without data is 0, which zeros in its place can't say. */
 static void unwritable(void)
 {
-    gazhdor_writer to = growing();
+    gazhdor_writer to = gazhdor_write(NULL, 0, gazhdor_by_realloc, NULL);
     gazhdor_text file = GAZHDOR_NO_TEXT;
     PUT(gazhdor_put_header(&to, 46477));
     PUT(gazhdor_put_end(&to));
@@ -322,8 +321,12 @@ static int small_file(gazhdor_writer *to)
     gazhdor_field own = gazhdor_new_developer(0, 1, GAZHDOR_TYPE_UINT16, 1);
     gazhdor_field fields[] = { gazhdor_new_field(253, GAZHDOR_TYPE_UINT32, 1), gazhdor_new_field(3, GAZHDOR_TYPE_UINT8, 1), own };
     int put = gazhdor_put_header(to, 0) == GAZHDOR_PUT;
-    put += gazhdor_put_description(to, 0, own, "Form power", "watts") == GAZHDOR_PUT;
+    size_t begin = to->length;
+    int is_described = gazhdor_put_description(to, 0, own, "Form power", "watts") == GAZHDOR_PUT;
+    WANT(is_described == (to->length != begin));
+    put += is_described;
     put += gazhdor_put_definition(to, 1, GAZHDOR_MESSAGE_RECORD, fields, 3) == GAZHDOR_PUT;
+    WANT(is_described || gazhdor_put_message(to, 0) != GAZHDOR_PUT);
     for (int i = 0; i < 3; i++) {
         size_t before = to->length;
         int is_put = gazhdor_put_message(to, 1) == GAZHDOR_PUT;
@@ -354,7 +357,7 @@ static uint8_t *grow_a_while(void *own, uint8_t *bytes, size_t capacity)
 
 static void rooms(void)
 {
-    gazhdor_writer whole = growing();
+    gazhdor_writer whole = gazhdor_write(NULL, 0, gazhdor_by_realloc, NULL);
     WANT(small_file(&whole) == 7 && whole.fault == GAZHDOR_PUT);
     for (size_t capacity = 0; capacity <= whole.length; capacity++) {
         uint8_t *bytes = malloc(capacity == 0 ? 1 : capacity);
@@ -373,12 +376,12 @@ static void rooms(void)
         free(to.bytes);
     }
     free(whole.bytes);
-    /* A length that has no room among all numbers. */
-    uint8_t bytes[32];
-    gazhdor_writer to = gazhdor_write(bytes, sizeof bytes, gazhdor_by_realloc, NULL);
+    /* A length that has no place among all numbers isn't asked for. */
+    int left = 9;
+    uint8_t byte;
+    gazhdor_writer to = gazhdor_write(&byte, SIZE_MAX - 8, grow_a_while, &left);
     to.length = SIZE_MAX - 8;
-    to.capacity = SIZE_MAX - 8;
-    WANT(gazhdor_put_header(&to, 0) == GAZHDOR_PUT_FULL && to.length == SIZE_MAX - 8 && to.bytes == bytes);
+    WANT(gazhdor_put_header(&to, 0) == GAZHDOR_PUT_FULL && to.length == SIZE_MAX - 8 && to.bytes == &byte && left == 9);
 }
 
 int main(void)
