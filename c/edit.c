@@ -101,7 +101,7 @@ int main(int argc, char **argv)
         copy(&to, blocks);
         answer = gazhdor_from_messages(to.bytes, to.length, &file);
     }
-    if (to.fault != GAZHDOR_PUT)
+    if (to.fault != GAZHDOR_PUT) /* Blocks that were read can be copied, where there is memory. */
         answer.status = GAZHDOR_NO_MEMORY;
     int is_good = answer.status == GAZHDOR_GOOD;
     if (!is_good)

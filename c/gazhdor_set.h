@@ -192,6 +192,24 @@ static inline uint32_t gazhdor_put_description(gazhdor_writer *to, uint32_t loca
     return GAZHDOR_PUT;
 }
 
+/* What an answer says, as "there is no room for the block"; "unknown" for other numbers. */
+static inline const char *gazhdor_put_text(uint32_t answer)
+{
+    switch (answer) {
+    case GAZHDOR_PUT: return "it was done";
+    case GAZHDOR_PUT_FULL: return "there is no room for the block";
+    case GAZHDOR_PUT_ORDER: return "such a block can't stand here, or the last one is no message";
+    case GAZHDOR_PUT_LOCAL: return "no such local message type is defined, or it has no time offset";
+    case GAZHDOR_PUT_COUNT: return "there are too many fields, or one comes after a developer field";
+    case GAZHDOR_PUT_FIELD: return "there is no such field or item";
+    case GAZHDOR_PUT_LENGTH: return "the length isn't that which has room there";
+    case GAZHDOR_PUT_KIND: return "the field has values of another kind";
+    case GAZHDOR_PUT_RANGE: return "the number is too small or too large, or stands for no value";
+    case GAZHDOR_PUT_NAN: return "the value isn't a number";
+    default: return "unknown";
+    }
+}
+
 #ifdef __cplusplus
 }
 #endif

@@ -7,7 +7,7 @@
  *     gazhdor_put_header(&to, 0);
  *     gazhdor_put_definition(&to, 0, GAZHDOR_MESSAGE_RECORD, fields, 2);
  *     gazhdor_put_message(&to, 0);
- *     gazhdor_set_number(&to, fields[0], 0, 1000000000);
+ *     gazhdor_set_raw(&to, fields[0], 0, 1000000000);
  *     gazhdor_set_value(&to, fields[1], 0, 408.2);
  *     gazhdor_put_end(&to);
  *     if (to.fault == GAZHDOR_PUT) answer = gazhdor_from_messages(to.bytes, to.length, &file);
@@ -24,7 +24,7 @@
 extern "C" {
 #endif
 
-/* What a function that writes answers. With all but GAZHDOR_PUT the blocks are what they were. */
+/* What a function that writes answers. With all but GAZHDOR_PUT the blocks are what they were. gazhdor_put_text says it in words. */
 enum gazhdor_put {
     GAZHDOR_PUT = 0,        /* It was done. */
     GAZHDOR_PUT_FULL = 1,   /* The memory has no room for the block, or more was refused. */
@@ -65,7 +65,7 @@ enum gazhdor_base_type {
  * is none, and then `bytes` stay as they are. `own` is the caller's. */
 typedef uint8_t *gazhdor_grow(void *own, uint8_t *bytes, size_t capacity);
 
-/* Blocks in the making. Between calls you may read all of it, and set `fault`. */
+/* Blocks in the making. Between calls you may read all of it, and set `fault`. Only one copy of it is written to. */
 typedef struct gazhdor_writer {
     uint8_t *bytes;       /* the blocks, in memory of `capacity` bytes */
     size_t length;

@@ -87,13 +87,16 @@ int main(int argc, char **argv)
     gazhdor_text bytes = GAZHDOR_NO_TEXT;
     gazhdor_writer to = gazhdor_write(NULL, 0, gazhdor_by_realloc, NULL);
     put_ride(&to);
-    int is_good = to.fault == GAZHDOR_PUT && gazhdor_from_messages(to.bytes, to.length, &bytes).status == GAZHDOR_GOOD;
+    gazhdor_answer answer = gazhdor_from_messages(to.bytes, to.length, &bytes);
+    int is_good = to.fault == GAZHDOR_PUT && answer.status == GAZHDOR_GOOD;
     FILE *file = is_good ? fopen(argv[1], "wb") : NULL;
     int is_written = file != NULL && fwrite(bytes.bytes, 1, bytes.length, file) == bytes.length;
     if (file != NULL)
         is_written &= fclose(file) == 0;
-    if (!is_written)
-        fprintf(stderr, is_good ? "cannot write %s\n" : "out of memory\n", argv[1]);
+    if (!is_good)
+        fprintf(stderr, "%s\n", to.fault == GAZHDOR_PUT ? gazhdor_status_name(answer.status) : gazhdor_put_text(to.fault));
+    else if (!is_written)
+        fprintf(stderr, "cannot write %s\n", argv[1]);
     gazhdor_free(bytes);
     free(to.bytes);
     return is_written ? 0 : is_good ? 4 : 3;

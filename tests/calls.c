@@ -262,6 +262,12 @@ static void named_of_blocks(void)
             WANT(strcmp(gazhdor_block_reason_text(reason), gazhdor_block_reason_text(other)) != 0);
     }
     WANT(strstr(gazhdor_block_reason_text(GAZHDOR_BLOCK_UNDEFINED), "local message type isn't defined") != NULL);
+    for (uint32_t answer = GAZHDOR_PUT; answer <= GAZHDOR_PUT_NAN + 1; answer++) {
+        WANT((strcmp(gazhdor_put_text(answer), "unknown") == 0) == (answer > GAZHDOR_PUT_NAN));
+        for (uint32_t other = GAZHDOR_PUT; other < answer; other++)
+            WANT(strcmp(gazhdor_put_text(answer), gazhdor_put_text(other)) != 0);
+    }
+    WANT(strstr(gazhdor_put_text(GAZHDOR_PUT_FULL), "no room") != NULL && strstr(gazhdor_put_text(GAZHDOR_PUT_NAN), "isn't a number") != NULL);
 }
 
 /* Each growth of memory refused in turn: no memory, with a front of the text; or, where another way needs less, the same answer as
