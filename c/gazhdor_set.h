@@ -99,7 +99,7 @@ static inline uint32_t gazhdor_set_float(gazhdor_writer *to, gazhdor_field field
 
 /* Sets item k of a field, counted from 0, to the one nearest to this number in the field's unit, by exact arithmetic; halfway between two
  * to the one away from zero. GAZHDOR_PUT_RANGE where that is too small or too large for an item, or stands for no value. What gazhdor_value
- * gives of an item of at most 4 bytes sets it again. */
+ * gives of an item sets it again, where item and item - offset * scale have at most 52 bits. */
 static inline uint32_t gazhdor_set_value(gazhdor_writer *to, gazhdor_field field, size_t k, double value)
 {
     if (gazhdor_place_of(to, field) == GAZHDOR_NULL || k >= field.count)
