@@ -195,7 +195,7 @@ static void values(gazhdor_writer *to)
 {
     gazhdor_field f[] = { gazhdor_new_field(3, GAZHDOR_TYPE_UINT8, 2), gazhdor_new_field(4, GAZHDOR_TYPE_STRING, 4),
         gazhdor_new_field(5, GAZHDOR_TYPE_BYTE, 3), gazhdor_new_field(6, GAZHDOR_TYPE_SINT16, 1), gazhdor_new_field(7, GAZHDOR_TYPE_STRING, 0) };
-    gazhdor_field other = gazhdor_new_field(3, GAZHDOR_TYPE_UINT8, 1), wrong;
+    gazhdor_field other = gazhdor_new_field(3, GAZHDOR_TYPE_UINT8, 1);
     PUT(gazhdor_put_definition(to, 5, 20, &other, 1));
     PUT(gazhdor_put_definition(to, 4, 20, f, 5));
     ANSWERS(to, GAZHDOR_PUT_FIELD, gazhdor_set_value(to, f[0], 0, 1));
@@ -227,12 +227,8 @@ static void values(gazhdor_writer *to)
     PUT(gazhdor_set_items(to, f[4], NULL, 0));
     ANSWERS(to, GAZHDOR_PUT_RANGE, gazhdor_set_offset(to, 32));
     ANSWERS(to, GAZHDOR_PUT_LOCAL, gazhdor_set_offset(to, 31));
-    for (uint32_t width = 0; width < 256; width++) {
-        wrong = f[0];
-        wrong.width = (uint8_t)width;
-        if (width != 1 && width != 2 && width != 4 && width != 8)
-            ANSWERS(to, GAZHDOR_PUT_FIELD, gazhdor_set_invalid(to, wrong));
-    }
+    for (other = f[0], other.width = 9; other.width != 0; other.width++)
+        ANSWERS(to, GAZHDOR_PUT_FIELD, gazhdor_set_invalid(to, other));
 }
 
 static void answers(void)
