@@ -10,7 +10,7 @@ from typing import Dict, Iterator, List, NamedTuple, Optional, Tuple
 from ._profile import Info, name_of, info_of
 
 _MOST = 1 << 26  # A text of more characters gets no advice: it takes some seconds to find the place.
-_NO_INFO = Info("", "", 1, 0)
+_NO_INFO = Info("", "", 1, 0, "")
 _BYTE, _STRING, _DESCRIPTION = 13, 7, 206
 # Of the base types that are whole numbers the width, whether they have a sign, and the invalid number.
 _WHOLE = {0: (1, False, 0xFF), 1: (1, True, 0x7F), 2: (1, False, 0xFF), 10: (1, False, 0)}

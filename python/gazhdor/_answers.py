@@ -1,10 +1,24 @@
 """What the library returns."""
 import ctypes
-from typing import Optional
+from typing import Optional, Tuple
 
 from ._reasons import REASONS
 
-GOOD, REFUSED, TRUNCATED, NO_MEMORY, TEXT, UNWRITABLE, CLOSED, NO_KIND = range(8)
+GOOD, REFUSED, TRUNCATED, NO_MEMORY, TEXT, UNWRITABLE, CLOSED, NO_KIND, BLOCK = range(9)
+
+# Why a block can't stand where it is, by the numbers of the reasons from 1, and what each says of the block.
+BLOCK_REASONS = (
+    ("Cut", "has a length that can't be, or the blocks end within a file"),
+    ("Kind", "is of a kind that can't stand there"),
+    ("Header", "is of a header that no file has"),
+    ("Local", "has a local message type over 15"),
+    ("Architecture", "has an architecture that is neither 0 nor 1"),
+    ("Entries", "has entries that don't fill it, or aren't as many as it says"),
+    ("Size", "has a field of over 255 bytes, or whose items have another width than its base type"),
+    ("Offset", "has a time offset that no header can have"),
+    ("Undefined", "is of a local message type that isn't defined"),
+    ("Items", "has items beyond its end"),
+)
 
 
 class Answer(ctypes.Structure):
@@ -13,11 +27,13 @@ class Answer(ctypes.Structure):
 
     good    whether they are
     files   how many files they are, where they are good; else 0
-    place   the place of the byte that is refused, or where the bytes end too soon, counted from 0; else None
-    reason  the name of the reason, as 'FileSum', where a byte is refused; else None
+    place   the place of the byte that is refused, or where the bytes end too soon, counted from 0; of blocks where that begins which is
+            refused; else None
+    reason  the name of the reason, as 'FileSum', where a byte is refused, or as 'Items', where a block is; else None
     row     of a text: the first row that isn't allowed where it is, counted from 1; else None
     explanation  what is wrong, as a sentence; None where they are good
     column  of a text: its first cell that isn't allowed there, counted from 1; None where the row as a whole is refused
+    block   of blocks: the first that can't stand where it is, counted from 0; else None
     """
 
     _fields_ = [
@@ -41,11 +57,17 @@ class Answer(ctypes.Structure):
 
     @property
     def place(self) -> Optional[int]:
-        return self._place if self._status in (REFUSED, TRUNCATED) else None
+        return self._place if self._status in (REFUSED, TRUNCATED, BLOCK) else None
 
     @property
     def reason(self) -> Optional[str]:
-        return REASONS[self._reason - 1][0] if self._status == REFUSED else None
+        return self._why[0] if self._status in (REFUSED, BLOCK) else None
+
+    @property
+    def _why(self) -> Tuple[str, str]:
+        """The name of the reason, and what it says; nothing of other findings."""
+        reasons = {REFUSED: REASONS, BLOCK: BLOCK_REASONS}.get(self._status)
+        return reasons[self._reason - 1] if reasons else ("", "")
 
     @property
     def row(self) -> Optional[int]:
@@ -56,16 +78,21 @@ class Answer(ctypes.Structure):
         return self._column or None
 
     @property
+    def block(self) -> Optional[int]:
+        return self._row if self._status == BLOCK else None
+
+    @property
     def explanation(self) -> Optional[str]:
         return (
             None,
-            f"The byte at {self.place} {REASONS[self._reason - 1][1]}." if self._status == REFUSED else None,
+            f"The byte at {self.place} {self._why[1]}.",
             f"The bytes end at {self.place}, before the file does.",
             "Memory was refused, which says nothing of the bytes.",
             f"The cell in row {self.row}, column {self.column} isn't allowed there." if self.column else f"Row {self.row} isn't allowed there.",
             "The rows are those of files that have no bytes: one is too long, or has zeros in place of a checksum of 0.",
             "The stream is closed.",
             "There is no such kind of stream.",
+            f"Block {self.block}, which begins at {self.place}, {self._why[1]}.",
         )[self._status]
 
     def __eq__(self, other: object) -> bool:
@@ -87,6 +114,7 @@ class Answer(ctypes.Structure):
             "no file has such rows",
             "closed",
             "no such kind",
+            f"block {self.block} at {self.place} refused: {self.reason}",
         )[self._status]
 
     def __repr__(self) -> str:

@@ -89,6 +89,9 @@ def _load(version: str) -> ctypes.CDLL:
         for name in ("table", "to_csv", "show", "from_csv", "messages"):
             call = getattr(library, f"gazhdor_{name}")
             call.argtypes, call.restype = (ctypes.c_char_p, ctypes.c_size_t, ctypes.POINTER(_Text)), Answer
+        if hasattr(library, "gazhdor_from_messages"):
+            library.gazhdor_from_messages.argtypes = ctypes.c_char_p, ctypes.c_size_t, ctypes.POINTER(_Text)
+            library.gazhdor_from_messages.restype = Answer
         if hasattr(library, "gazhdor_open"):
             stream, text = ctypes.POINTER(_Stream), ctypes.POINTER(_Text)
             library.gazhdor_open.argtypes, library.gazhdor_open.restype = (stream, ctypes.c_uint32), Answer
@@ -116,8 +119,9 @@ def _version() -> str:
 
 VERSION = _version()
 library = _load(VERSION)
-# A library of this version that was made before there were streams has none.
+# A library of this version that was made before there were streams, or the call on blocks, has none.
 HAS_STREAMS = hasattr(library, "gazhdor_open")
+HAS_WRITER = hasattr(library, "gazhdor_from_messages")
 _nothing = ctypes.create_string_buffer(1)
 _MOST_AT_ONCE = 2**30  # ctypes.string_at counts in a C int.
 

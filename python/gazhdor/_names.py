@@ -3,10 +3,11 @@ import os
 import re
 from typing import Any, Dict, Mapping, NamedTuple, Optional, Union
 
+from ._bases import base_named
 from ._library import packed
 from ._profile import Kind, number_of, profile
 
-_COLUMNS = ("message", "message name", "field", "field name", "unit", "scale", "offset", "type")
+_COLUMNS = ("message", "message name", "field", "field name", "unit", "scale", "offset", "type", "base type")
 TYPES = ("date_time", "local_date_time")
 # What is kept for attributes of a message, for its time, and for what has no name.
 RESERVED = re.compile(r"\..*|timestamp|field_\d+|dev_\d+_\d+|message_\d+", re.S)
@@ -21,6 +22,7 @@ class Named(NamedTuple):
     offset
     type    'date_time' where it is a time in seconds since 1989-12-31T00:00:00 UTC, 'local_date_time' where it is one by the clock of
             the place; else None
+    base    the name of the base type that it has when it is written, as 'uint16'
     """
 
     name: Optional[str] = None
@@ -28,6 +30,7 @@ class Named(NamedTuple):
     scale: Optional[float] = None
     offset: Optional[float] = None
     type: Optional[str] = None
+    base: Optional[str] = None
 
 
 def _see_name(name: Any) -> None:
@@ -58,6 +61,8 @@ def _see_named(named: Named) -> Named:
             raise ValueError(f"{what} can't be {number}")
     if named.scale == 0:
         raise ValueError("a scale can't be 0")
+    if named.base is not None:
+        base_named(named.base)
     if named.type not in (None, *TYPES):
         raise ValueError(f"a type is {' or '.join(TYPES)}, and not {named.type!r}")
     return named
@@ -70,10 +75,10 @@ class Names:
     """Names, units and scales of fields, and names of messages, by their numbers.
 
     `told` is a dict or the path of a text. A dict has `{(message, field): name}`, the message being a name or a number and the field the
-    number of a field; in place of the name may stand `(name, unit, scale, offset, type)`, of which the last ones can be left out, and None
-    leaves what is known. `{140: 'physiology'}` names a message. A text is UTF-8, with tabs between cells, and begins with the names of its
-    columns, which are some of 'message', 'message name', 'field', 'field name', 'unit', 'scale', 'offset' and 'type'; an empty cell leaves
-    what is known, a row without 'field' names a message alone, and a line that begins with '#' says nothing.
+    number of a field; in place of the name may stand `(name, unit, scale, offset, type, base)`, of which the last ones can be left out, and
+    None leaves what is known. `{140: 'physiology'}` names a message. A text is UTF-8, with tabs between cells, and begins with the names of its
+    columns, which are some of 'message', 'message name', 'field', 'field name', 'unit', 'scale', 'offset', 'type' and 'base type'; an empty
+    cell leaves what is known, a row without 'field' names a message alone, and a line that begins with '#' says nothing.
 
     `one | other` has what both have, and of what both name what `other` has. It raises ValueError, with the line of a text, for what can't
     be, and OSError where a path can't be opened.
@@ -132,7 +137,8 @@ class Names:
             self._take(message, cells["message name"])
         if "field" in cells:
             scale, offset = (_scale(cells[name]) if name in cells else None for name in ("scale", "offset"))
-            self._take((message, int(cells["field"])), (cells.get("field name"), cells.get("unit"), scale, offset, cells.get("type")))
+            named = cells.get("field name"), cells.get("unit"), scale, offset, cells.get("type"), cells.get("base type")
+            self._take((message, int(cells["field"])), named)
 
     @property
     def messages(self) -> Dict[str, int]:

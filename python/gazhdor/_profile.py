@@ -15,12 +15,13 @@ _MOST_NAMES, _MOST_LETTERS = 1000, 100  # So many names are compared, and none t
 
 
 class Info(NamedTuple):
-    """What the profile says of a field: an item `raw` stands for `raw / scale - offset` units."""
+    """What the profile says of a field: an item `raw` stands for `raw / scale - offset` units; its base type is usually `base`."""
 
     name: str
     unit: str
     scale: int
     offset: int
+    base: str
 
 
 class Known(NamedTuple):
@@ -32,9 +33,9 @@ class Known(NamedTuple):
 
 
 # Field 253 has a name in all messages, and field 254 in those of the profile; they aren't in the table.
-_INFO_OF_ALL = {253: Info("timestamp", "s", 1, 0)}
+_INFO_OF_ALL = {253: Info("timestamp", "s", 1, 0, "uint32")}
 _OF_ALL = {"timestamp": 253}
-_INDEX = {254: Info("message_index", "", 1, 0)}
+_INDEX = {254: Info("message_index", "", 1, 0, "uint16")}
 
 
 @functools.lru_cache(None)
@@ -43,10 +44,10 @@ def profile() -> Dict[str, Known]:
     found: Dict[str, Known] = {}
     lines = (packed("profile.tsv") or b"").decode().splitlines()
     for line in lines[1:]:
-        number, name, field, field_name, unit, scale, offset = line.split("\t")
+        number, name, field, field_name, unit, scale, offset, base = line.split("\t")
         known = found.setdefault(name, Known(int(number), {**_OF_ALL, "message_index": 254}, {**_INFO_OF_ALL, **_INDEX}))
         known.fields[field_name] = int(field)
-        known.told[int(field)] = Info(field_name, unit, int(scale), int(offset))
+        known.told[int(field)] = Info(field_name, unit, int(scale), int(offset), base)
     return found
 
 

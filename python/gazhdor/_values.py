@@ -3,6 +3,7 @@ import struct
 from decimal import Decimal
 from typing import Any, Callable, Dict, List, Mapping, NamedTuple, Optional, Tuple, Union, overload
 
+from ._bases import BYTES, FLOAT, SIGNED, TEXT, UNSIGNED
 from ._names import RESERVED, Named, Names
 from ._profile import fields_of
 
@@ -13,7 +14,6 @@ Raw = Union[int, bytes, Tuple[int, ...]]
 Key = Union[str, int, Tuple[int, int]]
 Reader = Callable[[bytes], Value]
 
-UNSIGNED, SIGNED, FLOAT, TEXT, BYTES = range(5)
 _ENTRY = struct.Struct("<HHBBBBBBBBIIIQ")
 _UNSIGNED = {1: "B", 2: "H", 4: "I", 8: "Q"}
 _FLOAT = {4: "f", 8: "d"}

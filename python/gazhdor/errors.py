@@ -1,7 +1,7 @@
 """What can be wrong: with the bytes or the text (FitError), with what they come from, and with the library itself."""
 from typing import Any, Dict, Optional, Tuple, Type
 
-from ._answers import NO_MEMORY, REFUSED, TRUNCATED, Answer
+from ._answers import BLOCK, NO_MEMORY, REFUSED, TRUNCATED, Answer
 
 
 class FitError(ValueError):
@@ -34,6 +34,33 @@ class TextRefused(FitError):
 
     def __str__(self) -> str:
         return f"{self.answer}: {self.advice}" if self.advice else str(self.answer)
+
+
+class BlocksRefused(FitError):
+    """Blocks of which `from_blocks` makes no file: the block `block`, counted from 0, which begins at `place`, can't stand where it is, and
+    `reason` says why; or they say files that have no bytes, then these are None."""
+
+    def __init__(self, answer: Answer) -> None:
+        super().__init__(answer)
+        self.block = answer.block
+
+    def __str__(self) -> str:
+        return str(self.answer) if self.block is not None else "no file has such blocks"
+
+
+class WrongValue(ValueError):
+    """A value that a field can't have, when a file is written. `field` is what names the field, `value` the value, `least` and `most` what the
+    field can have, in its unit, or None where it has no numbers; `row` is the row of a column, counted from 0, else None."""
+
+    def __init__(self, what: str, field: Any, value: Any, least: Any = None, most: Any = None, row: Optional[int] = None) -> None:
+        super().__init__(what, field)
+        self.what, self.field, self.value, self.least, self.most, self.row = what, field, value, least, most, row
+
+    def __str__(self) -> str:
+        return f"{self.field}{'' if self.row is None else f', row {self.row}'}: {self.what}"
+
+    def __reduce__(self) -> "Tuple[Type[WrongValue], Tuple[Any, ...]]":
+        return type(self), (self.what, self.field, self.value, self.least, self.most, self.row)
 
 
 class NotBinary(TypeError):
@@ -97,7 +124,7 @@ def judge(answer: Answer) -> None:
     if answer._status == NO_MEMORY:
         raise MemoryError("gazhdor: out of memory")
     if not answer.good:
-        kind = {REFUSED: Refused, TRUNCATED: Truncated}.get(answer._status, TextRefused)
+        kind = {REFUSED: Refused, TRUNCATED: Truncated, BLOCK: BlocksRefused}.get(answer._status, TextRefused)
         raise kind(answer)
 
 
