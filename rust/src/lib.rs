@@ -21,6 +21,7 @@
 #![deny(unsafe_code)]
 
 mod blocks;
+mod blocks_fault;
 mod fault;
 mod field;
 #[allow(unsafe_code)]
@@ -33,6 +34,7 @@ mod streams;
 mod tests;
 mod time;
 
+pub use blocks_fault::{BlockReason, BlocksFault};
 pub use fault::{Fault, Stopped};
 pub use field::{Field, Raw, Value};
 pub use library::{Bytes, Text};
@@ -178,6 +180,29 @@ pub fn messages(files: &[u8]) -> Result<Messages, Stopped<Messages>> {
 pub fn from_csv(text: impl AsRef<[u8]>) -> Result<Bytes, Fault> {
     let (answer, bytes) = library::from_csv(text.as_ref());
     found(&answer).map_or(Ok(bytes), Err)
+}
+
+/// Returns the bytes of the FIT file or files that blocks of bytes say, as [`Messages::blocks`] gives them.
+///
+/// ```
+/// use gazhdor::{from_blocks, BlockReason, BlocksFault};
+///
+/// # std::env::set_current_dir(env!("GAZHDOR_RIDES")).unwrap();
+/// let ride = std::fs::read("ride.fit").unwrap();
+/// let messages = gazhdor::messages(&ride).unwrap();
+/// assert_eq!(*from_blocks(messages.blocks()).unwrap(), ride[..]);
+/// assert_eq!(from_blocks(&[]).unwrap_err(), BlocksFault::Block { block: 0, place: 0, reason: BlockReason::Cut });
+/// ```
+///
+/// `docs/BLOCKS.md` says what a block has, and what of it is read here.
+///
+/// # Errors
+///
+/// A [`BlocksFault`] for the first block that can't stand where it is, where the blocks are those of files that have no bytes, and where memory
+/// is refused. There are no bytes then.
+pub fn from_blocks(blocks: &[u8]) -> Result<Bytes, BlocksFault> {
+    let (answer, bytes) = library::from_messages(blocks);
+    blocks_fault::found(&answer).map_or(Ok(bytes), Err)
 }
 
 /// Returns the version of the library that is linked in, which is that of this crate.

@@ -37,6 +37,7 @@ extern "C" {
     fn gazhdor_show(bytes: *const u8, length: usize, text: *mut Made) -> Answer;
     fn gazhdor_messages(bytes: *const u8, length: usize, blocks: *mut Made) -> Answer;
     fn gazhdor_from_csv(text: *const u8, length: usize, bytes: *mut Made) -> Answer;
+    fn gazhdor_from_messages(blocks: *const u8, length: usize, bytes: *mut Made) -> Answer;
     fn gazhdor_open(stream: *mut Handle, kind: u32) -> Answer;
     fn gazhdor_feed(stream: *mut Handle, bytes: *const u8, length: usize, text: *mut Made) -> Answer;
     fn gazhdor_finish(stream: *mut Handle, text: *mut Made) -> Answer;
@@ -182,6 +183,10 @@ pub(crate) fn messages(files: &[u8]) -> (Answer, Bytes) {
 
 pub(crate) fn from_csv(text: &[u8]) -> (Answer, Bytes) {
     made(gazhdor_from_csv, text)
+}
+
+pub(crate) fn from_messages(blocks: &[u8]) -> (Answer, Bytes) {
+    made(gazhdor_from_messages, blocks)
 }
 
 /// A stream, which is closed when this is dropped. The pointer in it makes it not `Sync`.

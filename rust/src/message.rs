@@ -30,6 +30,12 @@ impl Messages {
     pub fn iter(&self) -> Iter<'_> {
         Iter { walk: self.known.as_ref().map_or_else(|| Walk::new(&self.blocks), |known| known.walk(&self.blocks)) }
     }
+
+    /// All that the files have as blocks of bytes (`docs/BLOCKS.md`), of which [`from_blocks`](crate::from_blocks) makes the files again. Of a
+    /// piece they are those that it completes.
+    pub fn blocks(&self) -> &[u8] {
+        &self.blocks
+    }
 }
 
 impl<'a> IntoIterator for &'a Messages {

@@ -1,7 +1,9 @@
 //! Each growth of memory refused in turn. This program's own malloc and realloc stand before those of the C library.
-use gazhdor::{check, from_csv, messages, show, table, to_csv, Bytes, Fault, Messages, Stopped, Stream, Text};
+use gazhdor::{check, from_blocks, from_csv, messages, show, table, to_csv};
+use gazhdor::{BlocksFault, Bytes, Fault, Messages, Stopped, Stream, Text};
 use std::cell::Cell;
 use std::ffi::c_void;
+use std::fmt::Debug;
 use std::ptr;
 
 const RIDE: &[u8] = include_bytes!(concat!(env!("GAZHDOR_RIDES"), "/ride.fit"));
@@ -66,10 +68,10 @@ fn see_text(whole: &Text, result: Result<Text, Stopped>) {
     }
 }
 
-fn see_bytes(result: Result<Bytes, Fault>) {
+fn see_bytes<F: PartialEq + Debug>(result: Result<Bytes, F>, refused: F) {
     match result {
         Ok(bytes) => assert_eq!(*bytes, *RIDE),
-        Err(fault) => assert_eq!(fault, Fault::OutOfMemory),
+        Err(fault) => assert_eq!(fault, refused),
     }
 }
 
@@ -101,7 +103,8 @@ fn refused_memory_is_reported() {
     let whole = messages(RIDE).unwrap();
     assert!(each_refused(|| messages(RIDE), |result| see_messages(&whole, result)) > 0);
     let text = to_csv(RIDE).unwrap();
-    assert!(each_refused(|| from_csv(&text), see_bytes) > 0);
+    assert!(each_refused(|| from_csv(&text), |result| see_bytes(result, Fault::OutOfMemory)) > 0);
+    assert!(each_refused(|| from_blocks(whole.blocks()), |result| see_bytes(result, BlocksFault::OutOfMemory)) > 0);
     each_refused(|| check(RIDE), |result| assert!(matches!(result, Ok(1) | Err(Fault::OutOfMemory))));
 }
 

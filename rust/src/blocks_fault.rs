@@ -1,0 +1,133 @@
+//! What is wrong with blocks of which files are to be made, and where.
+use crate::library::Answer;
+use std::error::Error;
+use std::fmt::{self, Debug, Display, Formatter};
+
+/// Why [`from_blocks`](crate::from_blocks) makes no files, and where.
+#[derive(Debug, Clone, Copy, PartialEq, Eq, Hash)]
+pub enum BlocksFault {
+    /// A block can't stand where it is; or, by [`BlockReason::Cut`], the blocks end where another has to follow.
+    Block {
+        /// Which block it is, counted from 0; where the blocks end too soon, how many there are.
+        block: u64,
+        /// Where it begins among the bytes of all blocks.
+        place: u64,
+        /// Why.
+        reason: BlockReason,
+    },
+    /// The blocks are those of files that have no bytes: they are too long, or have zeros for a checksum of 0.
+    Unwritable,
+    /// Memory was refused. This says nothing of the blocks.
+    OutOfMemory,
+}
+
+/// Why a block can't stand where it is.
+#[derive(Debug, Clone, Copy, PartialEq, Eq, Hash)]
+pub enum BlockReason {
+    /// Its length is none of a block, or goes past the end; or the blocks end within a file, or there are none.
+    Cut = 1,
+    /// It is of a kind that can't stand there, as a message that comes before a header.
+    Kind,
+    /// It is of a header that no file has.
+    Header,
+    /// Its local message type is above 15.
+    Local,
+    /// Its architecture is neither 0 nor 1.
+    Architecture,
+    /// Its entries aren't those of its fields, one after another, and then of its developer fields.
+    Entries,
+    /// A field has over 255 bytes, or items of another width than a reader takes them in.
+    Size,
+    /// Its time offset is above 31, or is one of a local message type above 3.
+    Offset,
+    /// Its local message type has no definition in this file.
+    Undefined,
+    /// Items of its fields are outside of it.
+    Items,
+}
+
+/// All reasons, in the order of their numbers.
+const BLOCK_REASONS: [BlockReason; 10] = [
+    BlockReason::Cut,
+    BlockReason::Kind,
+    BlockReason::Header,
+    BlockReason::Local,
+    BlockReason::Architecture,
+    BlockReason::Entries,
+    BlockReason::Size,
+    BlockReason::Offset,
+    BlockReason::Undefined,
+    BlockReason::Items,
+];
+
+impl Display for BlockReason {
+    fn fmt(&self, f: &mut Formatter<'_>) -> fmt::Result {
+        Debug::fmt(self, f)
+    }
+}
+
+impl Display for BlocksFault {
+    fn fmt(&self, f: &mut Formatter<'_>) -> fmt::Result {
+        match *self {
+            BlocksFault::Block { block, place, reason } => write!(f, "block {block} refused at byte {place}: {reason}"),
+            BlocksFault::Unwritable => f.write_str("no file has such blocks"),
+            BlocksFault::OutOfMemory => f.write_str("out of memory"),
+        }
+    }
+}
+
+impl Error for BlocksFault {}
+
+/// What an answer of the library says is wrong with blocks.
+pub(crate) fn found(answer: &Answer) -> Option<BlocksFault> {
+    Some(match answer.status {
+        0 => return None,
+        3 => BlocksFault::OutOfMemory,
+        5 => BlocksFault::Unwritable,
+        8 => BlocksFault::Block { block: answer.row, place: answer.place, reason: reason(answer.reason) },
+        other => panic!("status {other} isn't one of gazhdor {} for blocks", env!("CARGO_PKG_VERSION")),
+    })
+}
+
+fn reason(number: u32) -> BlockReason {
+    match BLOCK_REASONS.iter().find(|&&reason| reason as u32 == number) {
+        Some(&reason) => reason,
+        None => panic!("reason {number} isn't one of gazhdor {} for blocks", env!("CARGO_PKG_VERSION")),
+    }
+}
+
+#[cfg(test)]
+mod tests {
+    use super::*;
+
+    fn answer(status: u32) -> Answer {
+        Answer { status, reason: 9, place: 40, row: 2, column: 0, files: 0 }
+    }
+
+    #[test]
+    fn each_status_has_its_fault() {
+        let block = BlocksFault::Block { block: 2, place: 40, reason: BlockReason::Undefined };
+        let faults = [
+            (3, BlocksFault::OutOfMemory, "out of memory"),
+            (5, BlocksFault::Unwritable, "no file has such blocks"),
+            (8, block, "block 2 refused at byte 40: Undefined"),
+        ];
+        assert_eq!(found(&answer(0)), None);
+        for (status, fault, text) in faults {
+            assert_eq!(found(&answer(status)), Some(fault));
+            assert_eq!(fault.to_string(), text);
+        }
+    }
+
+    #[test]
+    #[should_panic(expected = "status 4 isn't one of gazhdor")]
+    fn another_status() {
+        found(&answer(4));
+    }
+
+    #[test]
+    #[should_panic(expected = "reason 11 isn't one of gazhdor")]
+    fn another_reason() {
+        reason(11);
+    }
+}
