@@ -1,14 +1,9 @@
 //! A field of a message, and its values.
+use crate::base_type::{BYTES, FLOAT, SIGNED, TEXT};
 use crate::blocks::{eight, four, some, text, two, up_to_zero};
 use crate::names::{Named, Names};
 use std::fmt::{self, Debug, Formatter};
 use std::str;
-
-/// What the items of a field stand for.
-const SIGNED: u8 = 1;
-const FLOAT: u8 = 2;
-const TEXT: u8 = 3;
-const BYTES: u8 = 4;
 
 /// A field of a message: what its definition says of it, and its items.
 ///

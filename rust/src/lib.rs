@@ -20,6 +20,7 @@
 #![deny(missing_docs)]
 #![deny(unsafe_code)]
 
+mod base_type;
 mod blocks;
 mod blocks_fault;
 mod fault;
@@ -34,6 +35,7 @@ mod streams;
 mod tests;
 mod time;
 
+pub use base_type::BaseType;
 pub use blocks_fault::{BlockReason, BlocksFault};
 pub use fault::{Fault, Stopped};
 pub use field::{Field, Raw, Value};

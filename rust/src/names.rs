@@ -1,9 +1,11 @@
 //! Names, units and scales beside those of the profile.
+use crate::base_type::BaseType;
 use std::collections::BTreeMap;
 use std::error::Error;
 use std::fmt::{self, Display, Formatter};
 
-const COLUMNS: [&str; 8] = ["message", "message name", "field", "field name", "unit", "scale", "offset", "type"];
+const COLUMNS: [&str; 9] =
+    ["message", "message name", "field", "field name", "unit", "scale", "offset", "type", "base type"];
 const EXTRA: &str = include_str!("extra.tsv");
 
 /// What is said of a field. `None` leaves what the library says of it.
@@ -52,6 +54,7 @@ impl Eq for Named {}
 pub struct Names {
     messages: BTreeMap<u16, String>,
     fields: BTreeMap<(u16, u8), Named>,
+    base_types: BTreeMap<(u16, u8), BaseType>,
 }
 
 /// What is wrong with a text of names, and in which line, counted from 1.
@@ -84,8 +87,8 @@ impl Names {
     }
 
     /// The names of a text with tabs between cells. It begins with the names of its columns, which are some of `message`, `message name`,
-    /// `field`, `field name`, `unit`, `scale`, `offset` and `type`; messages and fields are numbers. An empty cell leaves what is known, a
-    /// row without a field names a message alone, and a line that begins with `#` says nothing, nor does `type` here.
+    /// `field`, `field name`, `unit`, `scale`, `offset`, `type` and `base type`; messages and fields are numbers. An empty cell leaves what
+    /// is known, a row without a field names a message alone, and a line that begins with `#` says nothing, nor does `type` here.
     ///
     /// # Errors
     ///
@@ -124,6 +127,10 @@ impl Names {
                 return Err("a scale can't be 0");
             }
             self.name_field(message, field, Named { name: text("field name"), unit: text("unit"), scale, offset });
+            if !cell("base type").is_empty() {
+                let base_type = BaseType::named(cell("base type")).ok_or("there is no such base type")?;
+                self.set_base_type(message, field, base_type);
+            }
         }
         Ok(())
     }
@@ -138,9 +145,30 @@ impl Names {
         self.fields.insert((message, field), named);
     }
 
+    /// Says which base type a field mostly has, by which it is written.
+    pub fn set_base_type(&mut self, message: u16, field: u8, base_type: BaseType) {
+        self.base_types.insert((message, field), base_type);
+    }
+
+    /// The base type that a field mostly has. A file says itself which one its own has.
+    pub fn base_type(&self, message: u16, field: u8) -> Option<BaseType> {
+        self.base_types.get(&(message, field)).copied()
+    }
+
     /// The name of a message.
     pub fn message(&self, message: u16) -> Option<&str> {
         self.messages.get(&message).map(String::as_str)
+    }
+
+    /// The number of the message of a name, as 20 of `record`.
+    pub fn message_named(&self, name: &str) -> Option<u16> {
+        self.messages.iter().find(|(_, of)| *of == name).map(|(&number, _)| number)
+    }
+
+    /// The number of the field of a message that has a name, as 3 of `heart_rate`.
+    pub fn field_named(&self, message: u16, name: &str) -> Option<u8> {
+        let mut fields = self.fields.range((message, 0)..=(message, u8::MAX));
+        fields.find(|(_, named)| named.name.as_deref() == Some(name)).map(|(&(_, number), _)| number)
     }
 
     /// What is said of a field of a message.

@@ -1,5 +1,5 @@
 //! Names beside those of the profile, and reasons in words.
-use gazhdor::{check, from_csv, messages, Message, Named, Names, Reason, Value};
+use gazhdor::{check, from_csv, messages, BaseType, Message, Named, Names, Reason, Value};
 
 /// A file of one record with these fields, each as the rows of `fdef` and `field` have it.
 fn record(fields: &[(u8, u8, u8, &str, &str, &str)]) -> Vec<u8> {
@@ -107,4 +107,40 @@ fn reasons_in_words() {
     let reason = check(b"PK\x03\x04").unwrap_err().reason().unwrap();
     assert_eq!((reason, reason.explanation()), (Reason::Protocol, "the byte has a major version above 2"));
     assert_eq!(Reason::Architecture.explanation(), "the byte is neither 0 nor 1");
+}
+
+/// Each base type by its code and by its name, as the FIT protocol has them.
+#[test]
+fn base_types() {
+    let codes = [0, 1, 2, 7, 10, 13, 0x83, 0x84, 0x85, 0x86, 0x88, 0x89, 0x8B, 0x8C, 0x8E, 0x8F, 0x90];
+    let names = "enum sint8 uint8 string uint8z byte sint16 uint16 sint32 uint32 float32 float64 uint16z uint32z sint64 uint64 uint64z";
+    let widths = [1, 1, 1, 1, 1, 1, 2, 2, 4, 4, 4, 8, 2, 4, 8, 8, 8];
+    assert_eq!(names.split(' ').count(), 17);
+    for ((code, name), width) in codes.into_iter().zip(names.split(' ')).zip(widths) {
+        let base_type = BaseType::of(code).unwrap();
+        assert_eq!((base_type.code(), base_type.name(), base_type.width()), (code, name, width));
+        assert_eq!(BaseType::named(name), Some(base_type));
+    }
+    assert_eq!((0..=255).filter_map(BaseType::of).count(), 17);
+    assert_eq!((BaseType::named("uint7"), BaseType::named("")), (None, None));
+}
+
+#[test]
+fn base_types_of_fields() {
+    let extra = Names::extra();
+    let numbers = |message, field| {
+        let message = extra.message_named(message)?;
+        Some((message, extra.field_named(message, field)?))
+    };
+    assert_eq!(numbers("device_settings", "utc_offset"), Some((2, 1)));
+    assert_eq!(extra.base_type(2, 1), Some(BaseType::Uint32));
+    assert_eq!(
+        (extra.base_type(2, 36), extra.message_named("sauna"), numbers("device_settings", "steam")),
+        (None, None, None)
+    );
+    let mut own = Names::read("message\tfield\tfield name\tbase type\n300\t0\tsteam\tuint8\n").unwrap();
+    own.set_base_type(300, 1, BaseType::Sint16);
+    assert_eq!([0, 1, 2].map(|field| own.base_type(300, field)), [Some(BaseType::Uint8), Some(BaseType::Sint16), None]);
+    let fault = Names::read("message\tfield\tbase type\n1\t2\tuint7\n").unwrap_err();
+    assert_eq!((fault.line, fault.what), (2, "there is no such base type"));
 }
