@@ -1,10 +1,12 @@
 //! The blocks of bytes that the library makes of messages, as docs/BLOCKS.md has them. Whatever bytes they have, nothing here panics.
 use std::sync::Arc;
 
+pub(crate) const HEADER: u8 = 1;
 pub(crate) const DEFINITION: u8 = 2;
 pub(crate) const MESSAGE: u8 = 3;
+pub(crate) const END: u8 = 4;
 /// The least length of the block of a definition or of a message, and that of any other.
-const FRONT: usize = 40;
+pub(crate) const FRONT: usize = 40;
 const LEAST: usize = 24;
 /// The least length of an entry: its numbers, its name and its unit.
 const ENTRY: usize = 48;
@@ -65,22 +67,47 @@ impl<'a> Walk<'a> {
     }
 }
 
+impl<'a> Walk<'a> {
+    /// What the next block is of. A message without its definition is passed over, and so is a block of another kind.
+    pub(crate) fn found(&mut self) -> Option<Found<'a>> {
+        loop {
+            let block = self.block()?;
+            match block[4] {
+                HEADER => return Some(Found::Header(block)),
+                DEFINITION => {
+                    self.known[usize::from(block[5] & 15)] = block;
+                    return Some(Found::Definition(block));
+                }
+                MESSAGE => {
+                    let definition = self.known[usize::from(block[6] & 15)];
+                    if !definition.is_empty() && definition[24..32] == block[24..32] {
+                        return Some(Found::Message(block, definition));
+                    }
+                }
+                END => return Some(Found::End),
+                _ => {}
+            }
+        }
+    }
+}
+
+/// A block by its kind. Those of messages and of definitions have 40 bytes at least.
+pub(crate) enum Found<'a> {
+    Header(&'a [u8]),
+    Definition(&'a [u8]),
+    /// With the block of its definition.
+    Message(&'a [u8], &'a [u8]),
+    End,
+}
+
 impl<'a> Iterator for Walk<'a> {
     /// The block of the message, and that of its definition. Both have 40 bytes at least.
     type Item = (&'a [u8], &'a [u8]);
 
     fn next(&mut self) -> Option<(&'a [u8], &'a [u8])> {
         loop {
-            let block = self.block()?;
-            match block[4] {
-                DEFINITION => self.known[usize::from(block[5] & 15)] = block,
-                MESSAGE => {
-                    let definition = self.known[usize::from(block[6] & 15)];
-                    if !definition.is_empty() && definition[24..32] == block[24..32] {
-                        return Some((block, definition));
-                    }
-                }
-                _ => {}
+            if let Found::Message(block, definition) = self.found()? {
+                return Some((block, definition));
             }
         }
     }

@@ -2,6 +2,7 @@
 use crate::base_type::{BYTES, FLOAT, SIGNED, TEXT};
 use crate::blocks::{eight, four, some, text, two, up_to_zero};
 use crate::names::{Named, Names};
+use crate::steps::Measure;
 use std::fmt::{self, Debug, Formatter};
 use std::str;
 
@@ -88,6 +89,14 @@ impl<'a> Field<'a> {
         named.or_else(|| text(self.entry, 32))
     }
 
+    /// Whether it has this name, which isn't empty.
+    pub(crate) fn is_named(&self, name: &[u8]) -> bool {
+        match self.named.and_then(|named| named.name.as_deref()) {
+            Some(named) => named.as_bytes() == name,
+            None => self.entry[32..].starts_with(name) && up_to_zero(&self.entry[32..]) == name && !name.is_empty(),
+        }
+    }
+
     /// Its number in the message.
     pub fn number(&self) -> u8 {
         self.entry[4]
@@ -112,6 +121,11 @@ impl<'a> Field<'a> {
     /// How many items it has.
     pub fn count(&self) -> usize {
         self.entry[10].into()
+    }
+
+    /// How many bytes an item has.
+    pub fn width(&self) -> usize {
+        self.entry[9].into()
     }
 
     /// A whole number `n` of the field stands for `n / scale - offset` units, by the profile; [`value`](Field::value) is what
@@ -142,15 +156,37 @@ impl<'a> Field<'a> {
             Raw::Float64(bits) => f64::from_bits(bits),
             Raw::Byte(_) => return None,
         };
-        let (scale, offset) = self.measure();
-        (scale != 0.0).then(|| (number - offset * scale) / scale)
+        let measure = self.measure();
+        (measure.scale != 0.0).then(|| measure.value(number))
     }
 
     /// Scale and offset, by what is said of the field beside the profile, or else by the profile.
-    fn measure(&self) -> (f64, f64) {
+    pub(crate) fn measure(&self) -> Measure {
         let named = self.named.filter(|_| self.entry[8] != FLOAT); // Floats stand for themselves.
         let (scale, offset) = named.map_or((None, None), |named| (named.scale, named.offset));
-        (scale.unwrap_or_else(|| self.scale().into()), offset.unwrap_or_else(|| self.offset().into()))
+        Measure {
+            scale: scale.unwrap_or_else(|| self.scale().into()),
+            offset: offset.unwrap_or_else(|| self.offset().into()),
+        }
+    }
+
+    /// What its items stand for, as docs/BLOCKS.md numbers it.
+    pub(crate) fn kind(&self) -> u8 {
+        self.entry[8]
+    }
+
+    pub(crate) fn is_lone_number(&self) -> bool {
+        self.count() == 1 && !matches!(self.kind(), TEXT | BYTES)
+    }
+
+    /// The item that stands for no value.
+    pub(crate) fn invalid(&self) -> u64 {
+        eight(self.entry, 24)
+    }
+
+    /// Where its items begin in the block of a message.
+    pub(crate) fn begins(&self) -> usize {
+        four(self.entry, 12) as usize
     }
 
     /// Item `k`, counted from 0, as the file has it; none where there is no such item.
@@ -177,7 +213,7 @@ impl<'a> Field<'a> {
     /// Number `k`, counted from 0, as a whole number where the profile doesn't scale it. It is [`Value::None`] where
     /// [`value`](Field::value) is none.
     pub fn item(&self, k: usize) -> Value<'a> {
-        let is_plain = self.measure() == (1.0, 0.0);
+        let is_plain = self.measure().is_plain();
         match self.raw(k).filter(|_| self.is_valid(k)) {
             Some(Raw::Unsigned(number)) if is_plain => Value::Unsigned(number),
             Some(Raw::Signed(number)) if is_plain => Value::Signed(number),

@@ -1,4 +1,5 @@
-//! Checks FIT files, which watches and bicycle computers write, reads their messages, and converts them to text and back.
+//! Checks FIT files, which watches and bicycle computers write, reads their messages, writes files of messages, and converts files to text
+//! and back.
 //!
 //! Each function works on bytes in memory and keeps nothing, so any number of threads may call at once; a [`Stream`] takes bytes that
 //! come in pieces. What a call returns is proved: this crate is a wrapper of Gazhdor's library, which is linked in, for x86-64 and aarch64 Linux.
@@ -16,27 +17,41 @@
 //!
 //! [`check`] and [`from_csv`] return a [`Fault`] where the bytes are no FIT file, or where memory is refused. [`table`], [`to_csv`],
 //! [`show`] and [`messages`] return a [`Stopped`], which has the text or the messages of all that comes before the fault too; `?` turns
-//! it into a [`Fault`].
+//! it into a [`Fault`]. A [`Writer`] makes files of values, and copies of files with other values.
 #![deny(missing_docs)]
 #![deny(unsafe_code)]
 
 mod base_type;
 mod blocks;
 mod blocks_fault;
+mod definition;
+mod developer;
+mod draft;
+mod entry;
+mod event;
 mod fault;
 mod field;
+mod items;
 #[allow(unsafe_code)]
 mod library;
 mod message;
 mod names;
 mod reason;
+mod steps;
 mod streams;
 #[cfg(test)]
 mod tests;
 mod time;
+mod unfit;
+mod usual;
+mod writer;
 
 pub use base_type::BaseType;
 pub use blocks_fault::{BlockReason, BlocksFault};
+pub use definition::Definition;
+pub use developer::Developer;
+pub use draft::{Draft, Key};
+pub use event::{Checksum, Event, Events, Header};
 pub use fault::{Fault, Stopped};
 pub use field::{Field, Raw, Value};
 pub use library::{Bytes, Text};
@@ -45,6 +60,8 @@ pub use names::{Named, Names, NamesFault};
 pub use reason::Reason;
 pub use streams::{Made, ReadFault, Reading, Stream};
 pub use time::Time;
+pub use unfit::Unfit;
+pub use writer::{WriteFault, Writer};
 
 use fault::found;
 
@@ -196,7 +213,7 @@ pub fn from_csv(text: impl AsRef<[u8]>) -> Result<Bytes, Fault> {
 /// assert_eq!(from_blocks(&[]).unwrap_err(), BlocksFault::Block { block: 0, place: 0, reason: BlockReason::Cut });
 /// ```
 ///
-/// `docs/BLOCKS.md` says what a block has, and what of it is read here.
+/// `docs/BLOCKS.md` says what a block has, and what of it is read here. A [`Writer`] makes blocks of values.
 ///
 /// # Errors
 ///

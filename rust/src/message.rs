@@ -1,9 +1,13 @@
 //! The messages of files, and what is read from them.
 use crate::blocks::{eight, four, text, two, up_to_zero, Entries, Known, Walk};
-use crate::field::Field;
+use crate::definition::Definition;
+use crate::draft::{Draft, Key};
+use crate::event::Events;
+use crate::field::{Field, Value};
 use crate::library::Bytes;
 use crate::names::Names;
 use crate::time::Time;
+use crate::unfit::Unfit;
 use std::fmt::{self, Debug, Formatter};
 use std::iter::FusedIterator;
 
@@ -28,13 +32,22 @@ impl Messages {
 
     /// Goes through the messages in their order.
     pub fn iter(&self) -> Iter<'_> {
-        Iter { walk: self.known.as_ref().map_or_else(|| Walk::new(&self.blocks), |known| known.walk(&self.blocks)) }
+        Iter { walk: self.walk() }
+    }
+
+    /// Goes through all that the files have, in its order: headers, definitions, messages, ends.
+    pub fn events(&self) -> Events<'_> {
+        Events::new(self.walk())
     }
 
     /// All that the files have as blocks of bytes (`docs/BLOCKS.md`), of which [`from_blocks`](crate::from_blocks) makes the files again. Of a
     /// piece they are those that it completes.
     pub fn blocks(&self) -> &[u8] {
         &self.blocks
+    }
+
+    fn walk(&self) -> Walk<'_> {
+        self.known.as_ref().map_or_else(|| Walk::new(&self.blocks), |known| known.walk(&self.blocks))
     }
 }
 
@@ -71,7 +84,7 @@ impl<'a> Iterator for Iter<'a> {
     type Item = Message<'a>;
 
     fn next(&mut self) -> Option<Message<'a>> {
-        self.walk.next().map(|(block, definition)| Message { block, definition, names: None })
+        self.walk.next().map(|(block, definition)| Message::new(block, definition, None))
     }
 }
 
@@ -106,6 +119,11 @@ pub struct Message<'a> {
 }
 
 impl<'a> Message<'a> {
+    /// That of two blocks of 40 bytes at least.
+    pub(crate) fn new(block: &'a [u8], definition: &'a [u8], names: Option<&'a Names>) -> Message<'a> {
+        Message { block, definition, names }
+    }
+
     /// The same message by these names, units and scales, which go before those of the profile. They say nothing of developer fields.
     pub fn named(self, names: &'a Names) -> Message<'a> {
         Message { names: Some(names), ..self }
@@ -174,8 +192,7 @@ impl<'a> Message<'a> {
 
     /// All fields, in the order of the definition, and then all developer fields.
     pub fn fields(&self) -> Fields<'a> {
-        let named = self.names.map(|names| (names, self.number()));
-        Fields { entries: Entries::new(self.definition), message: self.block, named }
+        Fields::new(self.definition, self.block, self.names.map(|names| (names, self.number())))
     }
 
     /// The first field of this name; developer fields have names too.
@@ -184,7 +201,7 @@ impl<'a> Message<'a> {
         let is_named = |entry: &&[u8]| entry[32..].starts_with(name) && up_to_zero(&entry[32..]) == name;
         match name {
             [] => None,
-            _ if self.names.is_some() => self.fields().find(|field| field.name().map(str::as_bytes) == Some(name)),
+            _ if self.names.is_some() => self.fields().find(|field| field.is_named(name)),
             _ => Entries::new(self.definition).find(is_named).map(|entry| Field::new(entry, self.block)),
         }
     }
@@ -202,6 +219,30 @@ impl<'a> Message<'a> {
     /// The first number of the first field of this name: `field(name)?.value(0)`.
     pub fn value(&self, name: &str) -> Option<f64> {
         self.field(name)?.value(0)
+    }
+
+    /// Its definition.
+    pub fn definition(&self) -> Definition<'a> {
+        Definition::read(self.definition, self.names)
+    }
+
+    /// A copy that can be changed and written.
+    pub fn draft(&self) -> Draft<'a> {
+        Draft::new(self.block.to_vec(), self.definition, self.names, false)
+    }
+
+    /// A changed copy, as [`Draft::set`] changes it: the items of all other fields stay as they are.
+    ///
+    /// # Errors
+    ///
+    /// As for [`Draft::set`].
+    pub fn with<'k, 'v>(&self, key: impl Into<Key<'k>>, value: impl Into<Value<'v>>) -> Result<Draft<'a>, Unfit> {
+        self.draft().with(key, value)
+    }
+
+    /// Its block, and that of its definition.
+    pub(crate) fn both(&self) -> (&'a [u8], &'a [u8]) {
+        (self.block, self.definition)
     }
 
     fn tells(&self, bit: u8) -> bool {
@@ -228,6 +269,12 @@ pub struct Fields<'a> {
     message: &'a [u8],
     /// What is said of fields beside the profile, and the number of the message.
     named: Option<(&'a Names, u16)>,
+}
+
+impl<'a> Fields<'a> {
+    pub(crate) fn new(definition: &'a [u8], message: &'a [u8], named: Option<(&'a Names, u16)>) -> Fields<'a> {
+        Fields { entries: Entries::new(definition), message, named }
+    }
 }
 
 impl<'a> Iterator for Fields<'a> {

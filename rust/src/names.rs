@@ -145,7 +145,7 @@ impl Names {
         self.fields.insert((message, field), named);
     }
 
-    /// Says which base type a field mostly has, by which it is written.
+    /// Says which base type a field mostly has, by which a [`Definition`](crate::Definition) takes it.
     pub fn set_base_type(&mut self, message: u16, field: u8, base_type: BaseType) {
         self.base_types.insert((message, field), base_type);
     }

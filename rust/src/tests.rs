@@ -1,5 +1,5 @@
 //! Blocks that are written by hand from docs/BLOCKS.md, and blocks whose bytes are changed, of which nothing must panic.
-use crate::{library, Field, Iter, Message, Raw, Value};
+use crate::{library, Field, Iter, Key, Message, Raw, Value};
 
 const RIDE: &[u8] = include_bytes!(concat!(env!("GAZHDOR_RIDES"), "/ride.fit"));
 
@@ -187,7 +187,24 @@ fn see(message: Message<'_>) -> usize {
             assert!(field.is_valid(k) || field.value(k).is_none());
         }
     }
-    seen
+    seen + set(message)
+}
+
+/// Sets all that there is in a copy, and counts what may be set.
+fn set(message: Message<'_>) -> usize {
+    let mut draft = message.draft();
+    let mut done = 0;
+    for (position, field) in (0..).zip(message.fields()) {
+        let key = Key::Position(position);
+        done += usize::from(draft.set(key, field.whole()).is_ok()) + usize::from(draft.set(key, Value::None).is_ok());
+        done += usize::from(draft.set_item(key, 0, 1).is_ok()) + usize::from(draft.set_item(key, 255, 1.5).is_ok());
+        done +=
+            usize::from(draft.set_items(key, [1, -2]).is_ok()) + usize::from(draft.set_items(key, [0.5; 3]).is_ok());
+        for raw in [Raw::Unsigned(1), Raw::Signed(-1), Raw::Float32(1), Raw::Float64(1), Raw::Byte(1)] {
+            done += usize::from(draft.set_raw(key, 1, raw).is_ok());
+        }
+    }
+    done
 }
 
 /// A number at random, the same each time.

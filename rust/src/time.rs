@@ -27,6 +27,16 @@ impl Time {
         Time(seconds)
     }
 
+    /// The time of a date in seconds since 1970-01-01T00:00:00 UTC; none of those that no file can have, before 3 July 1998 and after 2126.
+    ///
+    /// ```
+    /// assert_eq!(gazhdor::Time::from_unix(1_631_065_634), Some(gazhdor::Time::new(1_000_000_034)));
+    /// ```
+    pub fn from_unix(seconds: u64) -> Option<Time> {
+        let seconds = u32::try_from(seconds.checked_sub(EPOCH)?).ok()?;
+        Some(Time(seconds)).filter(|time| !time.is_system() && seconds != u32::MAX)
+    }
+
     /// Seconds since 1989-12-31T00:00:00 UTC; of a system time, since the device was switched on.
     pub fn seconds(self) -> u32 {
         self.0

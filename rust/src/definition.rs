@@ -1,0 +1,225 @@
+//! Definitions of messages that are to be written.
+use crate::base_type::BaseType;
+use crate::blocks::{four, two, up_to_zero, Entries, DEFINITION, FRONT, MESSAGE};
+use crate::developer::Developer;
+use crate::draft::Draft;
+use crate::entry::{in_text, Entry};
+use crate::field::Field;
+use crate::message::Fields;
+use crate::names::{Named, Names};
+use crate::unfit::{label, Unfit};
+use crate::usual;
+use std::borrow::Cow;
+use std::fmt::{self, Debug, Formatter};
+
+const MOST: usize = 255;
+
+/// Which fields a message has, and how they stand in the file: one that a program makes, or one that was read.
+///
+/// ```
+/// use gazhdor::{BaseType, Definition, Unfit, Writer};
+///
+/// // Fields by their names, of the base types that they mostly have; and one that the profile doesn't name.
+/// let record = Definition::of("record", &["timestamp", "heart_rate"])?.with_field(200, BaseType::Uint16, 1)?;
+/// let beat = record.message().with("timestamp", 1_000_000_000)?.with("heart_rate", 121)?.with(200, 7)?;
+/// assert_eq!(beat.field("heart_rate").unwrap().value(0), Some(121.0));
+/// # Ok::<(), Unfit>(())
+/// ```
+#[derive(Clone)]
+pub struct Definition<'a> {
+    /// Its block, of 40 bytes at least.
+    block: Cow<'a, [u8]>,
+    names: Option<&'a Names>,
+    /// Whether a writer chooses its local message type.
+    is_free: bool,
+}
+
+impl<'a> Definition<'a> {
+    /// That of a message of the profile, as `record`, with these fields of it.
+    ///
+    /// # Errors
+    ///
+    /// [`Unfit::NoMessage`] and [`Unfit::NoField`] where the profile has no such name, and [`Unfit::NoBaseType`] of a text, whose length
+    /// [`with`](Definition::with) takes.
+    pub fn of(message: &str, fields: &[&str]) -> Result<Definition<'static>, Unfit> {
+        let no_message = || Unfit::NoMessage { message: message.to_string() };
+        let made = Definition::numbered(usual::message_named(message).ok_or_else(no_message)?);
+        fields.iter().try_fold(made, |made, field| made.with(field, 1))
+    }
+
+    /// That of a message by these names, or else by those of the profile, with these fields of it.
+    ///
+    /// # Errors
+    ///
+    /// As for [`of`](Definition::of).
+    pub fn by(names: &'a Names, message: &str, fields: &[&str]) -> Result<Definition<'a>, Unfit> {
+        let no_message = || Unfit::NoMessage { message: message.to_string() };
+        let number = names.message_named(message).or_else(|| usual::message_named(message));
+        let made = Definition { names: Some(names), ..Definition::numbered(number.ok_or_else(no_message)?) };
+        fields.iter().try_fold(made, |made, field| made.with(field, 1))
+    }
+
+    /// That of the message of a number, without fields.
+    pub fn numbered(message: u16) -> Definition<'static> {
+        let mut block = vec![0; FRONT];
+        block[4] = DEFINITION;
+        block[32..34].copy_from_slice(&message.to_le_bytes());
+        block.extend(in_text(&usual::message_name(message)));
+        let length = block.len() as u32;
+        block[..4].copy_from_slice(&length.to_le_bytes());
+        block[12..16].copy_from_slice(&(FRONT as u32).to_le_bytes());
+        Definition { block: Cow::Owned(block), names: None, is_free: true }
+    }
+
+    /// That of a block of 40 bytes at least.
+    pub(crate) fn read(block: &'a [u8], names: Option<&'a Names>) -> Definition<'a> {
+        Definition { block: Cow::Borrowed(block), names, is_free: false }
+    }
+
+    /// The same with a field more, by its name and with its usual base type: of a text that many bytes, of numbers that many.
+    ///
+    /// # Errors
+    ///
+    /// [`Unfit::NoField`] where there is no such name, [`Unfit::NoBaseType`] where nothing says which base type it has, and of a text of one
+    /// byte; [`Unfit::Full`] where there are 255 fields, or it has more than 255 bytes.
+    pub fn with(self, field: &str, items: u8) -> Result<Definition<'a>, Unfit> {
+        let (number, base_type) = self.looked_up(field).ok_or_else(|| Unfit::NoField { field: field.to_string() })?;
+        match base_type {
+            Some(base_type) if base_type != BaseType::String || items != 1 => self.with_field(number, base_type, items),
+            _ => Err(Unfit::NoBaseType { field: field.to_string() }),
+        }
+    }
+
+    /// The same with a field more, by its number.
+    ///
+    /// # Errors
+    ///
+    /// [`Unfit::Full`] where there are 255 fields, or it has more than 255 bytes.
+    pub fn with_field(self, number: u8, base_type: BaseType, items: u8) -> Result<Definition<'a>, Unfit> {
+        let named = usual::field(self.number(), number);
+        let entry = Entry { number, developer: None, base_type, items, named };
+        let position = self.counts().0;
+        self.with_entry(entry, position)
+    }
+
+    /// The same with a developer field more, which the file has to describe before.
+    ///
+    /// # Errors
+    ///
+    /// [`Unfit::Full`] where there are 255 of them, or it has more than 255 bytes.
+    pub fn with_developer(self, of: &Developer, items: u8) -> Result<Definition<'a>, Unfit> {
+        let named = Named { name: Some(of.name.clone()), unit: Some(of.unit.clone()), ..Named::default() };
+        let (number, developer, base_type) = (of.number, Some(of.index), of.base_type);
+        let position = self.counts().0 + self.counts().1;
+        let mut made = self.with_entry(Entry { number, developer, base_type, items, named }, position)?;
+        made.block.to_mut()[38] |= 1;
+        Ok(made)
+    }
+
+    /// The same of a fixed local message type, 0 to 15, in the place of one that the writer chooses. Of a larger number the low four bits
+    /// count.
+    pub fn at(mut self, local: u8) -> Definition<'a> {
+        self.block.to_mut()[5] = local & 15;
+        Definition { is_free: false, ..self }
+    }
+
+    /// The same with numbers in big endian in the file.
+    pub fn big_endian(mut self) -> Definition<'a> {
+        self.block.to_mut()[6] = 1;
+        self
+    }
+
+    /// A message of this definition, in which no field has a value.
+    pub fn message(&self) -> Draft<'_> {
+        let mut block = vec![0; (four(&self.block, 12) as usize).max(FRONT)];
+        let length = block.len() as u32;
+        block[..4].copy_from_slice(&length.to_le_bytes());
+        block[4] = MESSAGE;
+        block[6] = self.local();
+        block[7] = 0xFF;
+        block[12..16].copy_from_slice(&u32::MAX.to_le_bytes());
+        block[24..32].copy_from_slice(&self.block[24..32]);
+        block[32..40].copy_from_slice(&u64::from(u32::MAX).to_le_bytes());
+        let mut made = Draft::new(block, &self.block, self.names, self.is_free);
+        made.clear();
+        made
+    }
+
+    /// The global message number, as 20 of `record`.
+    pub fn number(&self) -> u16 {
+        two(&self.block, 32)
+    }
+
+    /// The local message type; 0 where the writer chooses it.
+    pub fn local(&self) -> u8 {
+        self.block[5] & 15
+    }
+
+    /// Whether numbers are in big endian in the file.
+    pub fn is_big_endian(&self) -> bool {
+        self.block[6] == 1
+    }
+
+    /// Its fields, and then its developer fields, without values.
+    pub fn fields(&self) -> Fields<'_> {
+        Fields::new(&self.block, &[], self.names.map(|names| (names, self.number())))
+    }
+
+    pub(crate) fn block(&self) -> &[u8] {
+        &self.block
+    }
+
+    /// How many fields and how many developer fields it has.
+    fn counts(&self) -> (usize, usize) {
+        (two(&self.block, 34).into(), two(&self.block, 36).into())
+    }
+
+    /// The number of the field of a name and its usual base type, by the names of this definition or else by the profile.
+    fn looked_up(&self, field: &str) -> Option<(u8, Option<BaseType>)> {
+        let message = self.number();
+        let own = self.names.and_then(|names| names.field_named(message, field));
+        let number = own.or_else(|| usual::field_named(message, field))?;
+        let base_type = self.names.and_then(|names| names.base_type(message, number));
+        Some((number, base_type.or_else(|| usual::base_type(message, number))))
+    }
+
+    /// The same with one entry more, at a position among all.
+    fn with_entry(self, entry: Entry, position: usize) -> Result<Definition<'a>, Unfit> {
+        let (fields, developer) = self.counts();
+        let of_its_kind = if entry.developer.is_some() { developer } else { fields };
+        if of_its_kind >= MOST || usize::from(entry.base_type.width()) * usize::from(entry.items) > MOST {
+            return Err(Unfit::Full { field: entry.label() });
+        }
+        let mut entries: Vec<Vec<u8>> = Entries::new(&self.block).map(<[u8]>::to_vec).collect();
+        entries.insert(position.min(entries.len()), entry.bytes());
+        let name = up_to_zero(&self.block[FRONT..]).len();
+        let mut block = self.block[..FRONT + 8 + name / 8 * 8].to_vec();
+        let at = if entry.developer.is_some() { 36 } else { 34 };
+        block[at..at + 2].copy_from_slice(&(of_its_kind as u16 + 1).to_le_bytes());
+        lay(&mut block, &mut entries);
+        Ok(Definition { block: Cow::Owned(block), ..self })
+    }
+}
+
+/// Puts entries after the front of a definition's block, with the places of their items in the block of a message, one after another.
+fn lay(block: &mut Vec<u8>, entries: &mut [Vec<u8>]) {
+    let mut begins = FRONT as u32;
+    block[38] &= 1; // its messages don't have speed, distance, cycles and power
+    for entry in entries {
+        entry[12..16].copy_from_slice(&begins.to_le_bytes());
+        begins += (u32::from(entry[9]) * u32::from(entry[10]) + 7) / 8 * 8;
+        block.extend_from_slice(entry);
+    }
+    let length = block.len() as u32;
+    block[..4].copy_from_slice(&length.to_le_bytes());
+    block[12..16].copy_from_slice(&begins.to_le_bytes());
+}
+
+impl Debug for Definition<'_> {
+    fn fmt(&self, f: &mut Formatter<'_>) -> fmt::Result {
+        let fields = |field: Field<'_>| (label(&field), field.base_type(), field.count());
+        let mut all = f.debug_struct("Definition");
+        all.field("number", &self.number()).field("local", &self.local());
+        all.field("fields", &self.fields().map(fields).collect::<Vec<_>>()).finish()
+    }
+}

@@ -1,0 +1,299 @@
+//! A message that is to be written.
+use crate::blocks::Entries;
+use crate::field::{Field, Raw, Value};
+use crate::items;
+use crate::message::{Fields, Message};
+use crate::names::Names;
+use crate::time::Time;
+use crate::unfit::{label, Unfit};
+use std::fmt::{self, Debug, Formatter};
+
+/// How many bytes an item has.
+const WIDTHS: [usize; 4] = [1, 2, 4, 8];
+
+/// What names a field of a [`Draft`].
+#[derive(Debug, Clone, Copy, PartialEq, Eq, Hash)]
+pub enum Key<'k> {
+    /// The first field of this name; developer fields have names too.
+    Name(&'k str),
+    /// The first field with this number, developer fields left out.
+    Number(u8),
+    /// The first developer field with this developer data index and this number.
+    Developer(u8, u8),
+    /// The field at this position among all fields, counted from 0.
+    Position(usize),
+}
+
+impl<'k> From<&'k str> for Key<'k> {
+    fn from(name: &'k str) -> Key<'k> {
+        Key::Name(name)
+    }
+}
+
+impl From<u8> for Key<'_> {
+    fn from(number: u8) -> Self {
+        Key::Number(number)
+    }
+}
+
+impl From<(u8, u8)> for Key<'_> {
+    fn from((index, number): (u8, u8)) -> Self {
+        Key::Developer(index, number)
+    }
+}
+
+impl Key<'_> {
+    fn names(self, position: usize, field: &Field<'_>) -> bool {
+        match self {
+            Key::Name(name) => field.is_named(name.as_bytes()),
+            Key::Number(number) => field.developer().is_none() && field.number() == number,
+            Key::Developer(index, number) => field.developer() == Some(index) && field.number() == number,
+            Key::Position(at) => position == at,
+        }
+    }
+
+    fn label(self) -> String {
+        match self {
+            Key::Name(name) => name.to_string(),
+            Key::Number(number) => format!("field_{number}"),
+            Key::Developer(index, number) => format!("dev_{index}_{number}"),
+            Key::Position(at) => format!("at position {at}"),
+        }
+    }
+}
+
+/// A message that is to be written: of a [`Definition`](crate::Definition), where no field has a value at first, or a changed copy of a
+/// [`Message`], which keeps the items of each field that isn't touched.
+///
+/// ```
+/// use gazhdor::{Unfit, Value};
+///
+/// # std::env::set_current_dir(env!("GAZHDOR_RIDES")).unwrap();
+/// # let ride = std::fs::read("ride.fit").unwrap();
+/// let messages = gazhdor::messages(&ride).unwrap();
+/// let record = messages.iter().find(|message| message.name() == Some("record")).unwrap();
+/// let changed = record.with("altitude", 410.5)?.with("position_lat", Value::None)?;
+/// assert_eq!(changed.field("altitude").unwrap().value(0), Some(410.6));  // 4553 fifths of a metre above -500 m
+/// assert_eq!(changed.field("position_lat").unwrap().value(0), None);
+///
+/// let fault = record.with("altitude", 20000).unwrap_err();
+/// assert_eq!(fault.to_string(), "altitude: 20000 isn't from -500 to 12606.8");
+/// # Ok::<(), Unfit>(())
+/// ```
+///
+/// A number becomes the nearest whole number of the field by its scale and offset, and of two the one that is farther from 0.
+#[derive(Clone, PartialEq, Eq)]
+pub struct Draft<'a> {
+    /// Its block and that of its definition, of 40 bytes at least.
+    block: Vec<u8>,
+    definition: &'a [u8],
+    names: Option<&'a Names>,
+    /// Whether a writer chooses its local message type.
+    is_free: bool,
+}
+
+impl<'a> Draft<'a> {
+    pub(crate) fn new(block: Vec<u8>, definition: &'a [u8], names: Option<&'a Names>, is_free: bool) -> Draft<'a> {
+        Draft { block, definition, names, is_free }
+    }
+
+    /// The same with another value of a field, as for [`set`](Draft::set).
+    ///
+    /// # Errors
+    ///
+    /// As for [`set`](Draft::set).
+    pub fn with<'k, 'v>(mut self, key: impl Into<Key<'k>>, value: impl Into<Value<'v>>) -> Result<Draft<'a>, Unfit> {
+        self.set(key, value)?;
+        Ok(self)
+    }
+
+    /// Gives a field another value, as [`Field::whole`] gives values: a number, in the field's unit; a text; as many bytes as the field has.
+    /// [`Value::None`] makes it have no value.
+    ///
+    /// # Errors
+    ///
+    /// An [`Unfit`] where there is no such field, or the value doesn't fit into it. Then the draft is as before.
+    pub fn set<'k, 'v>(&mut self, key: impl Into<Key<'k>>, value: impl Into<Value<'v>>) -> Result<(), Unfit> {
+        let (field, value) = (self.found(key.into())?, value.into());
+        if field.is_lone_number() {
+            let (bits, place) = (items::number(&field, value)?, item(&field, 0)?);
+            self.put(place, bits);
+        } else {
+            let (first, items) = (field.begins(), items::all(&field, value)?);
+            self.block[first..first + items.len()].copy_from_slice(&items);
+        }
+        Ok(())
+    }
+
+    /// Gives number `k` of a field, counted from 0, another value.
+    ///
+    /// # Errors
+    ///
+    /// As for [`set`](Draft::set), and where the field has no item `k`.
+    pub fn set_item<'k, 'v>(
+        &mut self,
+        key: impl Into<Key<'k>>,
+        k: usize,
+        value: impl Into<Value<'v>>,
+    ) -> Result<(), Unfit> {
+        let field = self.found(key.into())?;
+        let bits = items::number(&field, value.into())?;
+        let place = item(&field, k)?;
+        self.put(place, bits);
+        Ok(())
+    }
+
+    /// Gives a field these numbers. Those that aren't given have no value.
+    ///
+    /// # Errors
+    ///
+    /// As for [`set`](Draft::set), and where they are more than the field has.
+    pub fn set_items<'k, 'v, V: Into<Value<'v>>>(
+        &mut self,
+        key: impl Into<Key<'k>>,
+        values: impl IntoIterator<Item = V>,
+    ) -> Result<(), Unfit> {
+        let field = self.found(key.into())?;
+        let (first, width) = (field.begins(), field.width());
+        let mut items = items::all(&field, Value::None)?;
+        let mut values = values.into_iter();
+        for (place, value) in items.chunks_exact_mut(width).zip(&mut values) {
+            place.copy_from_slice(&items::number(&field, value.into())?.to_le_bytes()[..width]);
+        }
+        if values.next().is_some() {
+            return Err(Unfit::Length { field: label(&field), length: field.count() + 1, room: field.count() });
+        }
+        self.block[first..first + items.len()].copy_from_slice(&items);
+        Ok(())
+    }
+
+    /// Gives item `k` of a field, counted from 0, just these bits, which may also stand for no value, or be a NaN.
+    ///
+    /// # Errors
+    ///
+    /// An [`Unfit`] where there is no such field or item, or it is of another base type.
+    pub fn set_raw<'k>(&mut self, key: impl Into<Key<'k>>, k: usize, raw: Raw) -> Result<(), Unfit> {
+        let field = self.found(key.into())?;
+        let (bits, place) = (items::raw(&field, raw)?, item(&field, k)?);
+        self.put(place, bits);
+        Ok(())
+    }
+
+    /// Gives it a compressed timestamp header with this time offset, 0 to 31, or else a normal header. Its local message type has to be 0 to 3.
+    ///
+    /// # Errors
+    ///
+    /// [`Unfit::Range`] where the offset is above 31.
+    pub fn set_time_offset(&mut self, offset: Option<u8>) -> Result<(), Unfit> {
+        if let Some(offset) = offset.filter(|&offset| offset > 31) {
+            let (field, value) = ("time_offset".to_string(), offset.to_string());
+            return Err(Unfit::Range { field, value, least: "0".to_string(), most: "31".to_string() });
+        }
+        self.block[7] = offset.unwrap_or(0xFF);
+        Ok(())
+    }
+
+    /// A field as it is now.
+    pub fn field<'k>(&self, key: impl Into<Key<'k>>) -> Option<Field<'_>> {
+        self.found(key.into()).ok()
+    }
+
+    /// All fields as they are now, in the order of the definition, and then all developer fields.
+    pub fn fields(&self) -> Fields<'_> {
+        self.message().fields()
+    }
+
+    /// Leaves no field a value.
+    pub(crate) fn clear(&mut self) {
+        for field in Entries::new(self.definition).map(|entry| Field::new(entry, &[])) {
+            let items = self.block.get_mut(field.begins()..field.begins() + field.width() * field.count());
+            let width = field.width().clamp(1, 8);
+            for item in items.unwrap_or(&mut []).chunks_exact_mut(width) {
+                item.copy_from_slice(&field.invalid().to_le_bytes()[..width]);
+            }
+        }
+    }
+
+    pub(crate) fn message(&self) -> Message<'_> {
+        Message::new(&self.block, self.definition, self.names)
+    }
+
+    pub(crate) fn is_free(&self) -> bool {
+        self.is_free
+    }
+
+    /// The field of a key, where the block has all its items.
+    fn found(&self, key: Key<'_>) -> Result<Field<'_>, Unfit> {
+        let mut fields = (0..).zip(self.fields());
+        let found = fields.find(|(position, field)| key.names(*position, field)).map(|(_, field)| field);
+        let is_there = |field: &Field<'_>| {
+            let end = field.begins() + field.width() * field.count();
+            WIDTHS.contains(&field.width()) && self.block.get(field.begins()..end).is_some()
+        };
+        found.filter(is_there).ok_or_else(|| Unfit::NoField { field: key.label() })
+    }
+
+    fn put(&mut self, (first, width): (usize, usize), bits: u64) {
+        self.block[first..first + width].copy_from_slice(&bits.to_le_bytes()[..width]);
+    }
+}
+
+/// Where item `k` of a field begins in the block, and how many bytes it has.
+fn item(field: &Field<'_>, k: usize) -> Result<(usize, usize), Unfit> {
+    match k < field.count() {
+        true => Ok((field.begins() + k * field.width(), field.width())),
+        false => Err(Unfit::Length { field: label(field), length: k.saturating_add(1), room: field.count() }),
+    }
+}
+
+impl<'a> From<Message<'a>> for Draft<'a> {
+    fn from(message: Message<'a>) -> Draft<'a> {
+        message.draft()
+    }
+}
+
+impl Debug for Draft<'_> {
+    fn fmt(&self, f: &mut Formatter<'_>) -> fmt::Result {
+        f.debug_struct("Draft").field("number", &self.message().number()).field("fields", &self.fields()).finish()
+    }
+}
+
+macro_rules! values {
+    ($($of:ty => $value:ident($wide:ty)),*) => {$(
+        impl From<$of> for Value<'_> {
+            fn from(number: $of) -> Self {
+                Value::$value(<$wide>::from(number))
+            }
+        }
+    )*};
+}
+
+values!(u8 => Unsigned(u64), u16 => Unsigned(u64), u32 => Unsigned(u64), u64 => Unsigned(u64));
+values!(i8 => Signed(i64), i16 => Signed(i64), i32 => Signed(i64), i64 => Signed(i64));
+values!(f32 => Float(f64), f64 => Float(f64));
+
+impl<'v> From<&'v str> for Value<'v> {
+    fn from(text: &'v str) -> Value<'v> {
+        Value::Text(text)
+    }
+}
+
+impl<'v> From<&'v [u8]> for Value<'v> {
+    fn from(bytes: &'v [u8]) -> Value<'v> {
+        Value::Bytes(bytes)
+    }
+}
+
+/// Its seconds.
+impl From<Time> for Value<'_> {
+    fn from(time: Time) -> Self {
+        Value::Unsigned(time.seconds().into())
+    }
+}
+
+/// [`Value::None`] where there is nothing.
+impl<'v, T: Into<Value<'v>>> From<Option<T>> for Value<'v> {
+    fn from(value: Option<T>) -> Value<'v> {
+        value.map_or(Value::None, Into::into)
+    }
+}

@@ -1,0 +1,122 @@
+//! All that files have, in its order.
+use crate::blocks::{two, Found, Walk, HEADER};
+use crate::definition::Definition;
+use crate::message::Message;
+use std::borrow::Cow;
+use std::fmt::{self, Debug, Formatter};
+use std::iter::FusedIterator;
+
+/// Something that a file has: what [`Messages::events`](crate::Messages::events) goes through, and [`Writer::copy`](crate::Writer::copy)
+/// writes.
+#[derive(Debug, Clone)]
+pub enum Event<'a> {
+    /// A file begins.
+    Header(Header<'a>),
+    /// The messages of a local message type are defined, or defined anew.
+    Definition(Definition<'a>),
+    /// A data message.
+    Message(Message<'a>),
+    /// The file ends.
+    End,
+}
+
+/// Goes through the [`Event`]s of [`Messages`](crate::Messages).
+#[derive(Clone)]
+pub struct Events<'a> {
+    walk: Walk<'a>,
+}
+
+impl<'a> Events<'a> {
+    pub(crate) fn new(walk: Walk<'a>) -> Events<'a> {
+        Events { walk }
+    }
+}
+
+impl<'a> Iterator for Events<'a> {
+    type Item = Event<'a>;
+
+    fn next(&mut self) -> Option<Event<'a>> {
+        Some(match self.walk.found()? {
+            Found::Header(block) => Event::Header(Header { block: Cow::Borrowed(block) }),
+            Found::Definition(block) => Event::Definition(Definition::read(block, None)),
+            Found::Message(block, definition) => Event::Message(Message::new(block, definition, None)),
+            Found::End => Event::End,
+        })
+    }
+}
+
+impl FusedIterator for Events<'_> {}
+
+impl Debug for Events<'_> {
+    fn fmt(&self, f: &mut Formatter<'_>) -> fmt::Result {
+        f.debug_list().entries(self.clone()).finish()
+    }
+}
+
+/// What the checksum of a header is.
+#[derive(Debug, Clone, Copy, PartialEq, Eq, Hash)]
+pub enum Checksum {
+    /// The header has 12 bytes, and none.
+    None = 0,
+    /// Zeros stand in its place.
+    Zeros = 1,
+    /// It is there.
+    There = 2,
+}
+
+/// The header of a file, but for how many bytes of data follow.
+#[derive(Clone, PartialEq, Eq)]
+pub struct Header<'a> {
+    /// Its block, of 24 bytes at least.
+    block: Cow<'a, [u8]>,
+}
+
+impl Header<'static> {
+    /// One of 14 bytes with its checksum, or of 12 bytes without one: with the version of the protocol, as 0x20 for 2.0, and the version of
+    /// the profile that the program knows.
+    pub fn new(protocol: u8, profile: u16, checksum: Checksum) -> Header<'static> {
+        let size = if checksum == Checksum::None { 12 } else { 14 };
+        let mut block = vec![32, 0, 0, 0, HEADER, size, protocol, checksum as u8];
+        block.resize(24, 0);
+        block.extend(u64::from(profile).to_le_bytes());
+        Header { block: Cow::Owned(block) }
+    }
+}
+
+impl Header<'_> {
+    /// How many bytes it has.
+    pub fn size(&self) -> u8 {
+        self.block[5]
+    }
+
+    /// The version of the protocol.
+    pub fn protocol(&self) -> u8 {
+        self.block[6]
+    }
+
+    /// The version of the profile.
+    pub fn profile(&self) -> u16 {
+        two(&self.block, 24)
+    }
+
+    /// What its checksum is.
+    pub fn checksum(&self) -> Checksum {
+        match self.block[7] {
+            0 => Checksum::None,
+            1 => Checksum::Zeros,
+            _ => Checksum::There,
+        }
+    }
+
+    pub(crate) fn block(&self) -> &[u8] {
+        &self.block
+    }
+}
+
+impl Debug for Header<'_> {
+    fn fmt(&self, f: &mut Formatter<'_>) -> fmt::Result {
+        let mut all = f.debug_struct("Header");
+        all.field("size", &self.size()).field("protocol", &self.protocol()).field("profile", &self.profile());
+        all.field("checksum", &self.checksum()).finish()
+    }
+}
