@@ -1,4 +1,5 @@
 //! What is wrong with blocks of which files are to be made, and where.
+use crate::block_reason::{BlockReason, BLOCK_REASONS};
 use crate::library::Answer;
 use std::error::Error;
 use std::fmt::{self, Debug, Display, Formatter};
@@ -21,45 +22,6 @@ pub enum BlocksFault {
     OutOfMemory,
 }
 
-/// Why a block can't stand where it is.
-#[derive(Debug, Clone, Copy, PartialEq, Eq, Hash)]
-pub enum BlockReason {
-    /// Its length is none of a block, or goes past the end; or the blocks end within a file, or there are none.
-    Cut = 1,
-    /// It is of a kind that can't stand there, as a message that comes before a header.
-    Kind,
-    /// It is of a header that no file has.
-    Header,
-    /// Its local message type is above 15.
-    Local,
-    /// Its architecture is neither 0 nor 1.
-    Architecture,
-    /// Its entries aren't those of its fields, one after another, and then of its developer fields.
-    Entries,
-    /// A field has over 255 bytes, or items of another width than a reader takes them in.
-    Size,
-    /// Its time offset is above 31, or is one of a local message type above 3.
-    Offset,
-    /// Its local message type has no definition in this file.
-    Undefined,
-    /// Items of its fields are outside of it.
-    Items,
-}
-
-/// All reasons, in the order of their numbers.
-const BLOCK_REASONS: [BlockReason; 10] = [
-    BlockReason::Cut,
-    BlockReason::Kind,
-    BlockReason::Header,
-    BlockReason::Local,
-    BlockReason::Architecture,
-    BlockReason::Entries,
-    BlockReason::Size,
-    BlockReason::Offset,
-    BlockReason::Undefined,
-    BlockReason::Items,
-];
-
 impl Display for BlockReason {
     fn fmt(&self, f: &mut Formatter<'_>) -> fmt::Result {
         Debug::fmt(self, f)
@@ -69,7 +31,7 @@ impl Display for BlockReason {
 impl Display for BlocksFault {
     fn fmt(&self, f: &mut Formatter<'_>) -> fmt::Result {
         match *self {
-            BlocksFault::Block { block, place, reason } => write!(f, "block {block} refused at byte {place}: {reason}"),
+            BlocksFault::Block { block, place, reason } => write!(f, "block {block} at {place} refused: {reason}"),
             BlocksFault::Unwritable => f.write_str("no file has such blocks"),
             BlocksFault::OutOfMemory => f.write_str("out of memory"),
         }
@@ -110,13 +72,20 @@ mod tests {
         let faults = [
             (3, BlocksFault::OutOfMemory, "out of memory"),
             (5, BlocksFault::Unwritable, "no file has such blocks"),
-            (8, block, "block 2 refused at byte 40: Undefined"),
+            (8, block, "block 2 at 40 refused: Undefined"),
         ];
         assert_eq!(found(&answer(0)), None);
         for (status, fault, text) in faults {
             assert_eq!(found(&answer(status)), Some(fault));
             assert_eq!(fault.to_string(), text);
         }
+    }
+
+    /// In words, as the table of the project has it.
+    #[test]
+    fn reasons_in_words() {
+        assert_eq!(reason(8).explanation(), "the block has a time offset of 32 to 254");
+        assert_eq!((1..).zip(BLOCK_REASONS).filter(|&(number, named)| reason(number) == named).count(), 10);
     }
 
     #[test]

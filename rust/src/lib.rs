@@ -22,6 +22,7 @@
 #![deny(unsafe_code)]
 
 mod base_type;
+mod block_reason;
 mod blocks;
 mod blocks_fault;
 mod definition;
@@ -47,7 +48,8 @@ mod usual;
 mod writer;
 
 pub use base_type::BaseType;
-pub use blocks_fault::{BlockReason, BlocksFault};
+pub use block_reason::BlockReason;
+pub use blocks_fault::BlocksFault;
 pub use definition::Definition;
 pub use developer::Developer;
 pub use draft::{Draft, Key};

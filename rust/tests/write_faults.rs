@@ -91,7 +91,7 @@ fn places_of_faults() {
     let place = events.blocks().len() as u64 + 32; // after a header
     let fault = BlocksFault::Block { block: events.events().count() as u64 + 1, place, reason: BlockReason::Size };
     assert_eq!(out.end(), Err(fault));
-    assert_eq!(fault.to_string(), format!("block {} refused at byte {place}: Size", events.events().count() + 1));
+    assert_eq!(fault.to_string(), format!("block {} at {place} refused: Size", events.events().count() + 1));
 }
 
 /// The true checksum of this header is 0: zeros can't stand for it, but are it.
