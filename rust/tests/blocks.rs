@@ -138,6 +138,14 @@ fn each_reason() {
         let fault = BlocksFault::Block { block: block as u64, place: ends[block] as u64, reason };
         assert_eq!(from_blocks(&blocks).map(drop), Err(fault), "byte {at}");
     }
+    // A compressed header has room for the local message types 0 to 3.
+    let mut blocks = whole;
+    blocks[ends[4] + 6] = 4;
+    blocks[ends[4] + 7] = 5;
+    assert_eq!(
+        from_blocks(&blocks).map(drop),
+        Err(BlocksFault::Block { block: 4, place: ends[4] as u64, reason: Local })
+    );
 }
 
 /// What isn't read may be any bytes: files, places, names, scales, times, and what the end has.
