@@ -23,6 +23,9 @@ export type Reason =
     | "HeaderSize" | "Protocol" | "NoFit" | "Signature" | "HeaderSum" | "ReservedBit" | "UndefinedLocal" | "Overrun" | "Architecture"
     | "FileSum" | "TooManyFiles"
 
+export type BlockReason =
+    | "Cut" | "Kind" | "Header" | "Local" | "Architecture" | "Entries" | "Size" | "Offset" | "Undefined" | "Items"
+
 /** What a call found. As text it is the finding, as `ok` or `refused at byte 3258: FileSum`. */
 export class Answer {
     private constructor()
@@ -30,10 +33,12 @@ export class Answer {
     readonly good: boolean
     /** How many files they are, where they are good; else 0. */
     readonly files: number
-    /** The place of the byte that is refused, or where the bytes end too soon, counted from 0. */
+    /** The place of the byte that is refused, where the bytes end too soon, or where the block begins that is refused, counted from 0. */
     readonly place: number | null
-    /** Why a byte is refused. */
-    readonly reason: Reason | null
+    /** Why a byte or a block is refused. */
+    readonly reason: Reason | BlockReason | null
+    /** Of blocks the first that can't stand where it is, counted from 0. */
+    readonly block: number | null
     /** Of a text the first row that isn't allowed where it is, counted from 1. */
     readonly row: number | null
     /** Of a text its first cell that isn't allowed there, counted from 1; null where the row as a whole is refused. */
@@ -50,7 +55,7 @@ export class FitError extends Error {
     protected constructor()
     readonly answer: Answer
     readonly place: number | null
-    readonly reason: Reason | null
+    readonly reason: Reason | BlockReason | null
     readonly row: number | null
     readonly column: number | null
     readonly explanation: string
@@ -68,6 +73,12 @@ export class Truncated extends FitError {
 }
 /** A text that `fromCsv` can't read, at `row` and `column`, or whose files have no bytes; then these are null. */
 export class TextRefused extends FitError {}
+/** Blocks of which `fromBlocks` makes no file: the block `block`, counted from 0, which begins at `place`, can't stand where it is, and `reason`
+ * says why; or they say files that have no bytes, then these are null. */
+export class BlocksRefused extends FitError {
+    readonly reason: BlockReason | null
+    readonly block: number | null
+}
 /** The engine gave no more memory, to the module or for what it made. This says nothing of the bytes. */
 export class OutOfMemory extends RangeError {}
 /** Nearly all of very many cells of the columns of all fields would be empty: name the fields. */
@@ -210,6 +221,10 @@ export class Gazhdor {
     show(source: Bytes, options: Encoded): Uint8Array
     /** The bytes of the file or files that a CSV text describes. */
     fromCsv(text: string | Bytes): Uint8Array
+    /** All that the files have as blocks of bytes, one after another, of which `fromBlocks` makes the same bytes again. */
+    blocks(source: Bytes, options?: Partial): Uint8Array
+    /** The bytes of the file or files that blocks say: docs/BLOCKS.md of the project says what is in one, and what of it is read here. */
+    fromBlocks(blocks: Bytes): Uint8Array
     /** The good messages of a file that was cut or damaged as a file of their own, with the files before it. */
     mend(source: Bytes): Uint8Array
     /** A Message for each data message. */

@@ -14,7 +14,7 @@
 import { Gazhdor } from "./src/library.mjs"
 import { limited } from "./src/limited.mjs"
 
-export { Answer, FitError, OutOfMemory, Refused, TextRefused, TooManyCells, Trapped, Truncated, WrongModule } from "./src/answers.mjs"
+export { Answer, BlocksRefused, FitError, OutOfMemory, Refused, TextRefused, TooManyCells, Trapped, Truncated, WrongModule } from "./src/answers.mjs"
 export { VERSION } from "./src/core.mjs"
 export { Gazhdor, Stream } from "./src/library.mjs"
 export { Field, Message, degrees, when } from "./src/messages.mjs"

@@ -18,9 +18,11 @@ const core = await opened()
 
 /* The numbers of an answer, as the library has them. */
 function numbers(answer) {
-    const reasons = ["HeaderSize", "Protocol", "NoFit", "Signature", "HeaderSum", "ReservedBit", "UndefinedLocal", "Overrun", "Architecture", "FileSum",
+    const ofBytes = ["HeaderSize", "Protocol", "NoFit", "Signature", "HeaderSum", "ReservedBit", "UndefinedLocal", "Overrun", "Architecture", "FileSum",
         "TooManyFiles"]
-    return [answer.status, reasons.indexOf(answer.reason) + 1, answer.place ?? 0, answer.row ?? 0, answer.column ?? 0, answer.files]
+    const ofBlocks = ["Cut", "Kind", "Header", "Local", "Architecture", "Entries", "Size", "Offset", "Undefined", "Items"]
+    const reason = (answer.block === null ? ofBytes : ofBlocks).indexOf(answer.reason) + 1
+    return [answer.status, reason, answer.place ?? 0, answer.row ?? answer.block ?? 0, answer.column ?? 0, answer.files]
 }
 
 function same(answer, made, told, what) {
@@ -30,7 +32,7 @@ function same(answer, made, told, what) {
 }
 
 await holds("the module has all calls, no import, and is no larger than it may be", async () => {
-    const calls = ["check", "table", "to_csv", "show", "messages", "from_csv", "open", "feed", "finish", "close", "alloc", "free", "version"]
+    const calls = ["check", "table", "to_csv", "show", "messages", "from_csv", "from_messages", "open", "feed", "finish", "close", "alloc", "free", "version"]
     const module = await WebAssembly.compile(MODULE)
     assert.deepEqual(WebAssembly.Module.imports(module), [])
     assert.deepEqual(WebAssembly.Module.exports(module).map(({ name }) => name).sort(), [...calls.map(name => `gazhdor_${name}`), "memory"].sort())
@@ -46,7 +48,9 @@ await holds("each call on each input", () => {
         if (check !== undefined) assert.deepEqual(numbers(core.check(bytes)), check, name)
         for (const [call, told] of Object.entries(calls)) same(...core.make(call, bytes, copied), told, `${call} of ${name}`)
     }
-    assert.ok(expected.filter(({ name }) => name.endsWith(".damaged")).length >= 1000)
+    const count = ending => expected.filter(({ name }) => name.endsWith(ending)).length
+    assert.ok(count(".damaged") >= 1000 && count(".blocks") >= 600)
+    assert.ok(new Set(expected.flatMap(({ calls }) => calls.from_messages?.answer[1] ?? [])).size >= 10, "reasons of blocks")
 })
 
 await holds("no call keeps memory", () => {
@@ -170,9 +174,11 @@ await holds("bytes that don't fit into the memory, and a stream of them that doe
 })
 
 await holds("a module that traps says so, and another one works", async () => {
-    const calls = { check: "check", table: "tableText", to_csv: "toCsv", show: "show", messages: null, feed: "columns" }
+    const calls = {
+        check: "check", table: "tableText", to_csv: "toCsv", show: "show", messages: "blocks", from_messages: "fromBlocks", feed: "columns",
+    }
     assert.ok(exportsOf(MODULE).gazhdor_table !== undefined)
-    for (const [call, name] of Object.entries(calls).filter(([, name]) => name !== null)) {
+    for (const [call, name] of Object.entries(calls)) {
         const gazhdor = await open(trapping(`gazhdor_${call}`)), stream = call === "feed" ? undefined : new Stream(gazhdor, "table")
         for (let k = 0; k < 2; k++) {
             const fault = thrown(Trapped, () => gazhdor[name](RIDE, "record"))

@@ -1,7 +1,7 @@
 #!/usr/bin/env python3
 """Makes inputs for the WebAssembly module, and what the library for x86-64 answers of them: wasm_expected.py LIBRARY FOLDER FILE..
 
-Into the folder come the FILEs, 1,000 files that are made of them by damage, texts of both kinds, and expected.json: for each input and each call
+Into the folder come the FILEs, 1,000 files that are made of them by damage, texts and blocks of both kinds, and expected.json: for each input and each call
 the numbers of the answer, and length and SHA-256 of what was made."""
 import ctypes
 import hashlib
@@ -11,7 +11,7 @@ import random
 import sys
 
 CALLS = ("table", "to_csv", "show", "messages")
-DAMAGED, TEXTS = 1000, 300
+DAMAGED, TEXTS, BLOCKS = 1000, 300, 600
 CRC = [0x0000, 0xCC01, 0xD801, 0x1400, 0xF001, 0x3C00, 0x2800, 0xE401, 0xA001, 0x6C00, 0x7800, 0xB401, 0x5000, 0x9C01, 0x8801, 0x4400]
 
 
@@ -25,7 +25,7 @@ class Text(ctypes.Structure):
 
 def loaded(path):
     library = ctypes.CDLL(os.path.abspath(path))
-    for name in ("check", *CALLS, "from_csv"):
+    for name in ("check", *CALLS, "from_csv", "from_messages"):
         getattr(library, f"gazhdor_{name}").restype = Answer
     library.gazhdor_free.argtypes, library.gazhdor_free.restype = (Text,), None
     return library
@@ -76,6 +76,18 @@ def damaged(r, data):
     return summed(bytes(data)) if len(data) > 16 and r.randrange(2) else bytes(data)
 
 
+def changed(r, blocks):
+    """A copy of some blocks with another byte or two, at the front of one of the first or anywhere; or cut."""
+    data, begins = bytearray(blocks), [0]
+    while len(begins) < 40 and begins[-1] < len(data):
+        begins.append(begins[-1] + int.from_bytes(data[begins[-1] : begins[-1] + 4], "little"))
+    for _ in range(r.choice((1, 1, 2))):
+        at = r.choice(begins[:-1] or [0]) + r.randrange(72) if r.randrange(4) else r.randrange(len(data) + 1)
+        if at < len(data):
+            data[at] = r.choice((0, 1, 2, 4, 16, 0xFF, data[at] ^ 1 << r.randrange(8), r.randrange(256)))
+    return bytes(data[: r.randrange(len(data) + 1)] if r.randrange(8) == 0 else data)
+
+
 def main():
     library, folder, paths = loaded(sys.argv[1]), sys.argv[2], sys.argv[3:]
     r = random.Random(20261129)
@@ -95,6 +107,12 @@ def main():
     for k, text in enumerate(texts):
         expected.append({"name": f"{k}.csv", "calls": {"from_csv": told(library, "from_csv", text)}})
         inputs.append((f"{k}.csv", text))
+    blocks = [made(library, "messages", data)[1] for data in small]
+    short = [data for data in blocks if len(data) < 50000]
+    blocks += [changed(r, r.choice(short)) for _ in range(BLOCKS)]
+    for k, data in enumerate(blocks):
+        expected.append({"name": f"{k}.blocks", "calls": {"from_messages": told(library, "from_messages", data)}})
+        inputs.append((f"{k}.blocks", data))
     for name, data in inputs:
         with open(os.path.join(folder, name), "wb") as file:
             file.write(data)

@@ -177,16 +177,18 @@ async function asked(requests) {
 await holds("the Worker", async () => {
     const requests = [
         ["check", RIDE], ["check", CUT], ["columns", RIDE, "record", ["altitude"]], ["messages", RIDE, { only: "lap" }], ["tableText", RIDE],
-        ["table", RIDE], ["mend", CUT], ["toCsv", CUT], ["fromCsv", gazhdor.toCsv(RIDE)], ["constructor", RIDE], ["check", 5],
+        ["table", RIDE], ["mend", CUT], ["toCsv", CUT], ["fromCsv", gazhdor.toCsv(RIDE)], ["constructor", RIDE], ["check", 5], ["blocks", RIDE],
+        ["fromBlocks", gazhdor.blocks(RIDE)], ["fromBlocks", RIDE],
     ]
     const answers = await asked(requests)
-    const [good, short, columns, laps, text, rows, mended, fault, bytes, none, five] = answers.map(answer => answer.made ?? answer.error)
+    const [good, short, columns, laps, text, rows, mended, fault, bytes, none, five, blocks, again, cut] = answers.map(answer => answer.made ?? answer.error)
     assert.deepEqual(answers.map(({ number }) => number), requests.map((_, k) => k))
     assert.deepEqual([good.text, good.files, short.text, short.place], ["ok", 1, "truncated at byte 2500", 2500])
     assert.deepEqual(columns.altitude, gazhdor.columns(RIDE, "record", ["altitude"]).altitude)
     assert.deepEqual([laps.length, laps[0].time.getTime(), laps[0].fields.total_distance], [1, Date.UTC(2026, 4, 17, 7, 30), 8558.46])
     assert.deepEqual([text, rows.length, bytes], [gazhdor.tableText(RIDE), 144, RIDE])
     assert.ok(gazhdor.check(mended).good)
+    assert.deepEqual([blocks, again, cut.name, cut.reason], [gazhdor.blocks(RIDE), RIDE, "BlocksRefused", "Cut"])
     assert.deepEqual([fault.name, fault.place, fault.text, none.name, five.name], ["Truncated", 2500, "truncated at byte 2500", "TypeError", "TypeError"])
 })
 

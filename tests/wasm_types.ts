@@ -1,5 +1,5 @@
 /* What a program in TypeScript may write with js/gazhdor.d.ts; the lines that must be refused say so. */
-import { Answer, Field, FitError, Gazhdor, Message, Refused, Stream, Truncated, UnknownName, Value, VERSION, degrees, open, when } from "./gazhdor.mjs"
+import { Answer, BlocksRefused, Field, FitError, Gazhdor, Message, Refused, Stream, Truncated, UnknownName, Value, VERSION, degrees, open, when } from "./gazhdor.mjs"
 
 async function all(bytes: Uint8Array, response: Response): Promise<void> {
     const gazhdor: Gazhdor = await open()
@@ -27,6 +27,9 @@ async function all(bytes: Uint8Array, response: Response): Promise<void> {
     // @ts-expect-error: encoded text is no string
     const wrong: string = gazhdor.show(bytes, { encoded: true })
     const made: Uint8Array = gazhdor.fromCsv(text)
+    const again: Uint8Array = gazhdor.fromBlocks(gazhdor.blocks(bytes, { partial: true }))
+    // @ts-expect-error: blocks are bytes
+    gazhdor.fromBlocks(text)
     const stream = new Stream(gazhdor, "table")
     stream.feed(bytes)
     stream.close()
@@ -38,10 +41,11 @@ async function all(bytes: Uint8Array, response: Response): Promise<void> {
         gazhdor.show(made)
     } catch (error) {
         if (error instanceof Refused || error instanceof Truncated) error.place.toFixed(0)
+        if (error instanceof BlocksRefused && error.reason === "Undefined") error.block?.toFixed(0)
         if (error instanceof UnknownName) error.nearest?.trim()
         if (error instanceof FitError && error.reason === "FileSum") error.explanation.trim()
     }
-    void [reason, encoded, wrong, next, when(5), degrees(5), VERSION]
+    void [reason, encoded, wrong, again, next, when(5), degrees(5), VERSION]
 }
 
 void all

@@ -1,9 +1,9 @@
 /* What messages, columns and rows must be: the cells of the CSV text and of the table, which the proved library writes, and values worked out by
  * hand: node wasm_values.mjs FILE.fit.. */
 import assert from "node:assert/strict"
-import { existsSync, readFileSync } from "node:fs"
+import { readFileSync } from "node:fs"
 import { basename } from "node:path"
-import { FitError, REASONS, Refused, TextRefused, TooManyCells, Truncated } from "../js/src/answers.mjs"
+import { BLOCK_REASONS, BlocksRefused, FitError, REASONS, Refused, TextRefused, TooManyCells, Truncated } from "../js/src/answers.mjs"
 import { Stream, UnknownName, degrees, open, when } from "../js/gazhdor.mjs"
 import { Walk } from "../js/src/messages.mjs"
 import { PROFILE } from "../js/src/profile.mjs"
@@ -303,10 +303,63 @@ await holds("a message of a definition that didn't come is none", () => {
     assert.throws(() => new Walk().messages(blocks), /without its definition/)
 })
 
-await holds("reasons in words are those of the table", () => {
-    const lines = existsSync("profile/reasons.tsv") ? readFileSync("profile/reasons.tsv", "utf8").trimEnd().split("\n").slice(1) : []
-    for (const line of lines) assert.equal(REASONS[line.split("\t")[0]], line.split("\t")[1])
-    assert.equal(lines.length, Object.keys(REASONS).length)
+await holds("blocks give the same bytes again", () => {
+    for (const [name, bytes] of files.filter(([, all]) => gazhdor.check(all).good)) {
+        const blocks = gazhdor.blocks(bytes)
+        assert.deepEqual(gazhdor.fromBlocks(blocks), bytes, name)
+        const stream = new Stream(gazhdor, "blocks"), parts = [stream.feed(bytes.subarray(0, 30)), stream.feed(bytes.subarray(30)), stream.finish()]
+        assert.deepEqual(joined(parts), blocks, name)
+    }
+    const chain = joined([RIDE, RIDE])
+    assert.deepEqual(gazhdor.fromBlocks(gazhdor.blocks(chain).buffer), chain)
+})
+
+await holds("a value that is changed in blocks is changed in the file", () => {
+    // The first record of the ride has its altitude, field 2, 408 m, as 4540 fifths of a metre above -500 m.
+    const blocks = gazhdor.blocks(RIDE), view = new DataView(blocks.buffer)
+    let at = 0, definition = 0
+    for (; blocks[at + 4] !== 3 || view.getBigUint64(at + 24, true) !== view.getBigUint64(definition + 24, true); at += view.getUint32(at, true))
+        if (blocks[at + 4] === 2 && view.getUint16(at + 32, true) === 20) definition = at
+    let entry = definition + 48 // after "record"
+    while (blocks[entry + 4] !== 2) entry += view.getUint16(entry, true)
+    const begins = at + view.getUint32(entry + 12, true)
+    assert.equal(view.getUint16(begins, true), 4540)
+    view.setUint16(begins, 4545, true)
+    const changed = gazhdor.fromBlocks(blocks), { altitude } = gazhdor.columns(changed, "record", ["altitude"])
+    assert.deepEqual([altitude[0], altitude.subarray(1)], [409, gazhdor.columns(RIDE, "record", ["altitude"]).altitude.subarray(1)])
+    assert.equal(changed.length, RIDE.length)
+})
+
+await holds("blocks that are refused", () => {
+    const blocks = gazhdor.blocks(RIDE), first = new DataView(blocks.buffer).getUint32(0, true)
+    const told = (made, what) => {
+        const { name, reason, block, place, message, row } = thrown(BlocksRefused, () => gazhdor.fromBlocks(made))
+        assert.deepEqual([name, reason, block, place, row], ["BlocksRefused", ...what, null])
+        assert.equal(message, `block ${block} at ${place} refused: ${reason}`)
+    }
+    told(new Uint8Array(0), ["Cut", 0, 0])
+    told(blocks.subarray(0, first), ["Cut", 1, first])
+    told(blocks.subarray(first), ["Kind", 0, 0])
+    const other = blocks.slice()
+    other[first + 6] = 2
+    told(other, ["Architecture", 1, first])
+    assert.equal(thrown(BlocksRefused, () => gazhdor.fromBlocks(other)).explanation, `Block 1, which begins at ${first}, has an architecture that is neither 0 nor 1.`)
+    // The checksum of this header is 0, and zeros can't stand for it.
+    const none = gazhdor.blocks(gazhdor.fromCsv("row,a,b,c,d,e,f\nfile,14,32,46477,sum,,\nend,,,,,,\n"))
+    none[7] = 1
+    const fault = thrown(BlocksRefused, () => gazhdor.fromBlocks(none))
+    assert.deepEqual([fault.message, fault.block, fault.place, fault.reason], ["no file has such blocks", null, null, null])
+    assert.match(fault.explanation, /^The blocks are those of files that have no bytes/)
+    for (const source of [null, "blocks", 5, [1]]) thrown(TypeError, () => gazhdor.fromBlocks(source))
+    assert.equal(thrown(Truncated, () => gazhdor.blocks(RIDE.subarray(0, 2000))).place, 2000)
+    told(gazhdor.blocks(RIDE.subarray(0, 14), { partial: true }), ["Cut", 1, first])
+})
+
+await holds("reasons in words are those of the tables", () => {
+    for (const [path, reasons] of [["profile/reasons.tsv", REASONS], ["profile/block_reasons.tsv", BLOCK_REASONS]]) {
+        const lines = readFileSync(path, "utf8").trimEnd().split("\n").slice(1)
+        assert.deepEqual(lines.map(line => line.split("\t")), Object.entries(reasons))
+    }
 })
 
 await holds("what may be given as bytes", () => {

@@ -1,13 +1,15 @@
 /* What the library found, and the errors that say so. */
 
-const TEXTS = ["ok", "", "", "out of memory", "", "no file has such rows", "closed", "no such kind"]
-export const [GOOD, REFUSED, TRUNCATED, NO_MEMORY, TEXT, UNWRITABLE] = TEXTS.keys()
+const TEXTS = ["ok", "", "", "out of memory", "", "no file has such rows", "closed", "no such kind", ""]
+export const [GOOD, REFUSED, TRUNCATED, NO_MEMORY, TEXT, UNWRITABLE, CLOSED, NO_KIND, BLOCK] = TEXTS.keys()
 
 const EXPLANATIONS = [
     null, null, null, "Memory was refused, which says nothing of the bytes.", null,
     "The rows are those of files that have no bytes: one is too long, or has zeros in place of a checksum of 0.", "The stream is closed.",
     "There is no such kind of stream.",
 ]
+
+const NO_SUCH_FILES = "The blocks are those of files that have no bytes: one is too long, or has zeros in place of a checksum of 0."
 
 /* What each reason says of the byte, as profile/reasons.tsv of the project has it. */
 export const REASONS = {
@@ -24,14 +26,29 @@ export const REASONS = {
     TooManyFiles: "follows the 16,777,215th file of a chain",
 }
 
+/* What each reason says of the block, as profile/block_reasons.tsv of the project has it. */
+export const BLOCK_REASONS = {
+    Cut: "isn't whole: its length isn't a multiple of 8 from 24 on, or goes past the end; or it is missing there, before a file has begun or has ended",
+    Kind: "is of a kind that can't stand there",
+    Header: "is a header of a size, a protocol version, a profile version or a kind of checksum that no file has",
+    Local: "has a local message type above 15, or above 3 beside a time offset",
+    Architecture: "has an architecture that is neither 0 nor 1",
+    Entries: "is a definition that its entries don't fill as its counts say",
+    Size: "has a field of more than 255 bytes, or with items of another width than a reader gives them",
+    Offset: "has a time offset of 32 to 254",
+    Undefined: "is a message whose local message type isn't defined",
+    Items: "is a message that ends before the items of its fields do",
+}
+
 /* What a call found. It is `good` where the bytes are a FIT file or several, one after another; as text it is the finding. */
 export class Answer {
     constructor(told) {
         this.status = told.status
         this.good = told.status === GOOD
         this.files = this.good ? told.files : 0
-        this.place = told.status === REFUSED || told.status === TRUNCATED ? told.place : null
-        this.reason = told.status === REFUSED ? Object.keys(REASONS)[told.reason - 1] : null
+        this.place = [REFUSED, TRUNCATED, BLOCK].includes(told.status) ? told.place : null
+        this.reason = Object.keys({ [REFUSED]: REASONS, [BLOCK]: BLOCK_REASONS }[told.status] ?? {})[told.reason - 1] ?? null
+        this.block = told.status === BLOCK ? told.row : null
         this.row = told.status === TEXT ? told.row : null
         this.column = told.status === TEXT && told.column !== 0 ? told.column : null
         Object.freeze(this)
@@ -39,6 +56,7 @@ export class Answer {
 
     /* The finding in words, or null where it is good. */
     get explanation() {
+        if (this.block !== null) return `Block ${this.block}, which begins at ${this.place}, ${BLOCK_REASONS[this.reason]}.`
         if (this.reason !== null) return `The byte at ${this.place} ${REASONS[this.reason]}.`
         if (this.place !== null) return `The bytes end at ${this.place}, before the file does.`
         if (this.column !== null) return `The cell in row ${this.row}, column ${this.column} isn't allowed there.`
@@ -47,6 +65,7 @@ export class Answer {
     }
 
     toString() {
+        if (this.block !== null) return `block ${this.block} at ${this.place} refused: ${this.reason}`
         if (this.reason !== null) return `refused at byte ${this.place}: ${this.reason}`
         if (this.place !== null) return `truncated at byte ${this.place}`
         if (this.row !== null) return this.column === null ? `row ${this.row} refused` : `row ${this.row} column ${this.column} refused`
@@ -78,6 +97,18 @@ export class Truncated extends FitError {}
 /* A text that `fromCsv` can't read, at `row` and `column`, or whose files have no bytes; then these are null. */
 export class TextRefused extends FitError {}
 
+/* Blocks of which `fromBlocks` makes no file: the block `block`, counted from 0, which begins at `place`, can't stand where it is, and `reason` says
+ * why; or they say files that have no bytes, then these are null. */
+export class BlocksRefused extends FitError {
+    constructor(answer) {
+        super(answer)
+        this.block = answer.block
+        if (answer.status === UNWRITABLE) this.message = "no file has such blocks"
+    }
+
+    get explanation() { return this.block === null ? NO_SUCH_FILES : super.explanation }
+}
+
 /* The engine gave no more memory, to the module or for what it made. This says nothing of the bytes. */
 export class OutOfMemory extends RangeError {
     constructor(text = "out of memory") { super(`gazhdor: ${text}`) }
@@ -97,7 +128,7 @@ export class Trapped extends Error {
 /* What was opened is no module of gazhdor, or one of another version. */
 export class WrongModule extends Error {}
 
-for (const kind of [FitError, Refused, Truncated, TextRefused, OutOfMemory, TooManyCells, Trapped, WrongModule])
+for (const kind of [FitError, Refused, Truncated, TextRefused, BlocksRefused, OutOfMemory, TooManyCells, Trapped, WrongModule])
     Object.defineProperty(kind.prototype, "name", { value: kind.name, configurable: true, writable: true })
 
 /* Throws what is wrong; of what may be had in part, only that memory was refused. */
@@ -108,4 +139,10 @@ export function judge(answer, partial = false) {
     if (answer.status === TRUNCATED) throw new Truncated(answer)
     if (answer.status === TEXT || answer.status === UNWRITABLE) throw new TextRefused(answer)
     throw new Error(`gazhdor: ${answer}`)
+}
+
+/* The same of an answer to blocks. */
+export function judgeBlocks(answer) {
+    if (answer.status === BLOCK || answer.status === UNWRITABLE) throw new BlocksRefused(answer)
+    judge(answer)
 }

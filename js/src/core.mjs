@@ -4,7 +4,7 @@ import { Answer, NO_MEMORY, OutOfMemory, Trapped, WrongModule } from "./answers.
 
 export const VERSION = "0.3.0"
 
-const CALLS = ["check", "table", "to_csv", "show", "messages", "from_csv", "open", "feed", "finish", "close", "alloc", "free", "version"]
+const CALLS = ["check", "table", "to_csv", "show", "messages", "from_csv", "from_messages", "open", "feed", "finish", "close", "alloc", "free", "version"]
 
 /* Beside each call stand 40 bytes of its answer and 16 of its text: where that lies, and its length. */
 const TEXT_AT = 40
@@ -105,7 +105,7 @@ export class Core {
         }, nothing)[0]
     }
 
-    /* A call that makes a text of bytes: table, to_csv, show, messages, from_csv. */
+    /* A call that makes a text of bytes: table, to_csv, show, messages, from_csv, from_messages. */
     make(name, bytes, use) {
         return this.#with(bytes, (at, length) => this.#made(`gazhdor_${name}`, [at, length], use), use)
     }

@@ -1,5 +1,5 @@
 /* The calls, each with the bytes of a file or a chain of files. */
-import { FitError, judge } from "./answers.mjs"
+import { FitError, judge, judgeBlocks } from "./answers.mjs"
 import { Columns } from "./columns.mjs"
 import { Core, copied, decoded } from "./core.mjs"
 import { mended } from "./mend.mjs"
@@ -54,6 +54,16 @@ export class Gazhdor {
         const bytes = typeof text === "string" ? new TextEncoder().encode(text) : bytesOf(text)
         const [answer, made] = this.#core.make("from_csv", bytes, copied)
         judge(answer)
+        return made
+    }
+
+    /* All that the files have as blocks of bytes, one after another: docs/BLOCKS.md of the project. */
+    blocks(source, { partial = false } = {}) { return converted(this.#core, "messages", source, { partial, encoded: true }) }
+
+    /* The bytes of the FIT file or files that blocks say. */
+    fromBlocks(blocks) {
+        const [answer, made] = this.#core.make("from_messages", bytesOf(blocks), copied)
+        judgeBlocks(answer)
         return made
     }
 
