@@ -32,21 +32,29 @@ from typing import Any, Iterator, NamedTuple, Optional, Tuple, Union
 from ._advice import advice as _advice
 from ._answers import Answer
 from ._columns import columns, frame, lists
+from ._events import DefinitionMessage, FileEnd, FileHeader
 from ._gpx import gpx
+from ._layout import FieldDefinition
 from ._library import VERSION as __version__
 from ._library import library as _library
 from ._library import text_of as _text_of
 from ._mend import mend
-from ._messages import Field, Message, Position, when
+from ._messages import Field, Message, Position
 from ._names import EXTRA, Named, Names
 from ._profile import UnknownName
+from ._shapes import DeveloperField
+from ._sinks import Sink, Writable
 from ._sources import Readable, Source
 from ._sources import bytes_of as _bytes_of
-from ._streams import Stream, messages
+from ._streams import Stream, blocks, messages
 from ._streams import found as _found
 from ._streams import rows as _rows
+from ._times import when
 from ._values import Key, Value, degrees
+from ._writer import Writer, from_blocks
+from ._written import Definition
 from .errors import (
+    BlocksRefused,
     FitError,
     LibraryError,
     LibraryMissing,
@@ -59,6 +67,7 @@ from .errors import (
     TooManyCells,
     Truncated,
     WrongMachine,
+    WrongValue,
     WrongVersion,
 )
 from .errors import judge as _judge
@@ -78,12 +87,21 @@ __all__ = [
     "lists",
     "columns",
     "frame",
+    "blocks",
+    "from_blocks",
     "when",
     "degrees",
     "Names",
     "Named",
     "EXTRA",
     "Stream",
+    "Writer",
+    "Definition",
+    "DeveloperField",
+    "FieldDefinition",
+    "FileHeader",
+    "DefinitionMessage",
+    "FileEnd",
     "Answer",
     "Row",
     "Message",
@@ -93,10 +111,14 @@ __all__ = [
     "Value",
     "Source",
     "Readable",
+    "Sink",
+    "Writable",
     "FitError",
     "Refused",
     "Truncated",
     "TextRefused",
+    "BlocksRefused",
+    "WrongValue",
     "NotBinary",
     "UnknownName",
     "ReadFailed",

@@ -2,14 +2,14 @@
 import importlib
 from typing import Any, Callable, Dict, Iterable, List, NamedTuple, Optional, Set
 
-from ._messages import _EPOCH, SYSTEM_TIMES
 from ._names import Told, names_of
 from ._parts import DATE, DEGREES, LOCAL, VALUE, Asked, Cell, Part, Piece, Table, told
 from ._profile import Kind
 from ._sources import Source
+from ._times import EPOCH, SYSTEM_TIMES
 from ._values import FLOAT, Entry, Key, label
 
-_UNIX = int(_EPOCH.timestamp())
+_UNIX = int(EPOCH.timestamp())
 
 
 def _needed(name: str) -> Any:

@@ -5,28 +5,13 @@ import struct
 from typing import Any, Dict, Iterator, Mapping, NamedTuple, Optional, Tuple, Union, ValuesView, overload
 
 from ._blocks import Run
+from ._items import packers
 from ._profile import UnknownName, fields_of
+from ._times import Time, when
 from ._values import Definition, Entry, Exact, Key, Number, Raw, Value, degrees, label, read_exact, read_raw
 
-Time = Union[datetime.datetime, str]
-
-_EPOCH = datetime.datetime(1989, 12, 31, tzinfo=datetime.timezone.utc)
-SYSTEM_TIMES = 0x10000000  # A time below is the device's own, which didn't know the time of day.
+_NO_TIME = b"\xff\xff\xff\xff"
 _FILE, _PLACE, _TIME = struct.Struct("<I").unpack_from, struct.Struct("<Q").unpack_from, struct.Struct("<I").unpack_from
-
-
-@overload
-def when(seconds: int) -> Time: ...
-@overload
-def when(seconds: None) -> None: ...
-@overload
-def when(seconds: Optional[int]) -> Optional[Time]: ...
-def when(seconds: Optional[int]) -> Optional[Time]:
-    """Returns the time that a field of type date_time stands for, in seconds since 1989-12-31T00:00:00 UTC: an aware datetime in UTC;
-    below 268,435,456 the text 'system+N', as the device didn't know the time. None stands for None."""
-    if seconds is None:
-        return None
-    return f"system+{seconds}" if seconds < SYSTEM_TIMES else _EPOCH + datetime.timedelta(0, seconds)
 
 
 def _time_of(entry: Entry, block: bytes) -> Optional[Time]:
@@ -34,6 +19,13 @@ def _time_of(entry: Entry, block: bytes) -> Optional[Time]:
     seconds: Any = entry.read(block)
     time = when(seconds)
     return time.replace(tzinfo=None) if entry.type == "local_date_time" and isinstance(time, datetime.datetime) else time
+
+
+def _tell_time(block: bytearray, at: int) -> None:
+    """Makes the time of a message that of its timestamp, or where that has none, that of its compressed header."""
+    time = block[at : at + 4] if block[at : at + 4] != _NO_TIME else block[32:36]
+    block[5] = block[5] & ~1 | (time != _NO_TIME)
+    block[12:16] = time
 
 
 class Position(NamedTuple):
@@ -185,6 +177,20 @@ class Message(Mapping[Key, Any]):
             raise self._missing(key)
         value = self.get(key)
         return tuple(item for item in value if item is not None) if isinstance(value, tuple) else () if value is None else (value,)
+
+    def replace(self, values: Optional[Mapping[Key, Any]] = None, **fields: Any) -> "Message":
+        """Returns the message with other values of some of its fields, which are named as for `message[..]`, those that are no words of Python
+        by a mapping: `message.replace({3: 121, "Form power": None}, position_lat=None)`. A value is what `messages` gives; of a field in
+        semicircles a float is degrees, and a time may be a datetime. What a field can't have is a `WrongValue`."""
+        block, packs = bytearray(self._block), packers(self._definition)
+        for key, value in {**(values or {}), **fields}.items():
+            if key not in packs:
+                raise self._missing(key)
+            pack = packs[key]
+            block[pack.begins : pack.begins + pack.size] = pack(value)
+            if pack.entry.key == 253 and pack.entry.type:
+                _tell_time(block, pack.begins)
+        return Message(bytes(block), self._definition)
 
     def native(self, key: Key) -> Value:
         """Returns the value of the developer field that stands for a field of the profile, such as "power" or 7: of the first that has

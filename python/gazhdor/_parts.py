@@ -4,11 +4,11 @@ from itertools import repeat
 from typing import Any, Dict, Iterable, Iterator, List, NamedTuple, Optional, Tuple
 
 from ._blocks import Walk
-from ._messages import _EPOCH, SYSTEM_TIMES, when
 from ._names import Names
 from ._profile import Kind, see_fields
 from ._sources import Source
 from ._streams import each
+from ._times import EPOCH, SYSTEM_TIMES, when
 from ._values import FLOAT, Definition, Entry, Key, as_value, degrees, whole_number
 from .errors import FitError, TooManyCells
 
@@ -158,7 +158,7 @@ def _time(seconds: Any, is_local: bool) -> Any:
 
 def _times(seconds: List[int], invalid: int, is_local: bool) -> List[Any]:
     if SYSTEM_TIMES <= min(seconds) and invalid not in seconds:
-        epoch = _EPOCH.replace(tzinfo=None) if is_local else _EPOCH
+        epoch = EPOCH.replace(tzinfo=None) if is_local else EPOCH
         return list(map(epoch.__add__, map(datetime.timedelta, repeat(0), seconds)))
     return [None if second == invalid else _time(second, is_local) for second in seconds]
 

@@ -8,6 +8,7 @@ from typing import TYPE_CHECKING, Any, Callable, Generic, Iterator, List, Option
 
 from ._answers import Answer
 from ._blocks import Only, Walk
+from ._events import Events, Everything
 from ._library import HAS_STREAMS, Opened, check, exact, library, text_of
 from ._messages import Message, messages_of
 from ._names import Told, names_of
@@ -208,11 +209,39 @@ def each(kind: str, source: Source, partial: bool, ahead: bool = True) -> Iterat
             judge(making.answer)
 
 
-def messages(source: Source, only: Only = None, partial: bool = False, names: Told = None) -> Iterator[Message]:
+def blocks(source: Source, partial: bool = False) -> bytes:
+    """Returns the blocks of all that the files have (docs/BLOCKS.md), of which `from_blocks` makes the same bytes again. With `partial` they
+    are those of what comes before a fault; else a fault is raised, as `Refused` or `Truncated`."""
+    made: List[bytes] = []
+    try:
+        made.extend(each("blocks", source, partial, ahead=False))
+    except FitError:
+        if not partial:
+            raise
+    return b"".join(made)
+
+
+if TYPE_CHECKING:
+
+    @overload
+    def messages(source: Source, only: Only = None, partial: bool = False, names: Told = None, everything: Literal[False] = False) -> Iterator[Message]: ...
+    @overload
+    def messages(source: Source, only: None = None, partial: bool = False, names: Told = None, *, everything: Literal[True]) -> Iterator[Everything]: ...
+
+
+def messages(source: Source, only: Only = None, partial: bool = False, names: Told = None, everything: bool = False) -> Iterator[Any]:
     """Yields a Message for each data message; with `only`, a name or a number or several of these, for such messages alone, and makes
     nothing of the others. The source is read, piece by piece, as messages are asked for. With `partial` a fault is raised after the
     messages before it, else before the first message, as `Refused` or `Truncated`; of a file object that can't go back to where it was,
-    as a pipe, also after those before it. `names` has names, units and scales beside the profile's: a dict, the path of a text, or `Names`."""
+    as a pipe, also after those before it. `names` has names, units and scales beside the profile's: a dict, the path of a text, or `Names`.
+    With `everything` it yields in their places what else files have, too: a `FileHeader`, a `DefinitionMessage`, a `FileEnd`."""
+    if everything:
+        if only is not None:
+            raise TypeError("everything is all messages, and not only some")
+        events = Events(names_of(names))
+        for blocks in each("blocks", source, partial):
+            yield from events.events(blocks)
+        return
     walk = Walk(only, names_of(names))
     for blocks in each("blocks", source, partial):
         yield from messages_of(blocks, walk.runs(blocks))

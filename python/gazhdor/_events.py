@@ -1,0 +1,176 @@
+"""All that files have, in their order: headers, definition messages, messages, ends."""
+import struct
+from typing import Any, Iterator, Optional, Tuple, Union
+
+from ._blocks import DEFINITION, HEADER, MESSAGE, Walk
+from ._layout import KINDS, FieldDefinition, fields_of_block
+from ._messages import Message
+from ._names import Names
+from ._natives import Natives
+from ._values import Definition
+from .errors import StreamBroken
+
+_FRONT, _FILE, _PLACE = struct.Struct("<IBBB").unpack_from, struct.Struct("<I").unpack_from, struct.Struct("<Q").unpack_from
+_DATA, _PROFILE = struct.Struct("<I").unpack_from, struct.Struct("<Q").unpack_from
+
+
+class Event:
+    """A header, a definition message or the end of a file. `file` is the number of the file in the chain, from 1, `place` the place of its
+    first byte in the source, from 0."""
+
+    __slots__ = ("_block",)
+
+    def __init__(self, block: bytes) -> None:
+        self._block = block
+
+    @property
+    def file(self) -> int:
+        number: int = _FILE(self._block, 8)[0]
+        return number
+
+    @property
+    def place(self) -> int:
+        place: int = _PLACE(self._block, 16)[0]
+        return place
+
+    def __eq__(self, other: object) -> bool:
+        return type(other) is type(self) and self._block == other._block  # type: ignore[attr-defined]
+
+    def __hash__(self) -> int:
+        return hash(self._block)
+
+    def __reduce__(self) -> Any:
+        return type(self), (self._block,)
+
+    def __repr__(self) -> str:
+        return f"<gazhdor.{type(self).__name__} at {self.place}>"
+
+
+class FileHeader(Event):
+    """The header of a file.
+
+    size      its size in bytes
+    protocol  the version of the protocol, 16 times the first number and the second
+    profile   the version of the profile, as 2132 for 21.32
+    checksum  whether it has one: 'there', 'zeros' in place of it, or 'none'
+    data      how many bytes of data come after it
+    more      the bytes from place 14 on
+    """
+
+    __slots__ = ()
+
+    @property
+    def size(self) -> int:
+        return self._block[5]
+
+    @property
+    def protocol(self) -> int:
+        return self._block[6]
+
+    @property
+    def profile(self) -> int:
+        version: int = _PROFILE(self._block, 24)[0]
+        return version
+
+    @property
+    def checksum(self) -> str:
+        return KINDS[self._block[7]]
+
+    @property
+    def data(self) -> int:
+        size: int = _DATA(self._block, 12)[0]
+        return size
+
+    @property
+    def more(self) -> bytes:
+        return self._block[32 : 32 + max(0, self.size - 14)]
+
+
+class DefinitionMessage(Event):
+    """A definition message.
+
+    number, name  global message number, and the name of the message, or None
+    local         local message type
+    big           whether its numbers and those of its messages are big endian
+    reserved      its reserved byte
+    fields        a `FieldDefinition` for each field, and then for each developer field: `number`, `base`, the code of its base type,
+                  `size`, `developer`, the developer data index, or None
+    says_developers  whether its record header says that there are developer fields
+    """
+
+    __slots__ = ("_definition",)
+
+    def __init__(self, block: bytes, definition: Definition) -> None:
+        super().__init__(block)
+        self._definition = definition
+
+    @property
+    def number(self) -> int:
+        return self._definition.number
+
+    @property
+    def name(self) -> Optional[str]:
+        return self._definition.name
+
+    @property
+    def local(self) -> int:
+        return self._block[5]
+
+    @property
+    def big(self) -> bool:
+        return self._block[6] == 1
+
+    @property
+    def reserved(self) -> int:
+        return self._block[7]
+
+    @property
+    def says_developers(self) -> bool:
+        return self._block[38] & 1 == 1
+
+    @property
+    def fields(self) -> Tuple[FieldDefinition, ...]:
+        return fields_of_block(self._block)
+
+    def __reduce__(self) -> Any:
+        return DefinitionMessage, (self._block, self._definition)
+
+
+class FileEnd(Event):
+    """The end of a file, its checksum."""
+
+    __slots__ = ()
+
+
+Everything = Union[FileHeader, DefinitionMessage, Message, FileEnd]
+
+
+class Events(Walk):
+    """Goes through blocks, and makes of each an event."""
+
+    def __init__(self, names: Optional[Names]) -> None:
+        super().__init__(None, names)
+
+    def events(self, blocks: bytes) -> Iterator[Everything]:
+        at, end, current = 0, len(blocks), self._current
+        while at < end:
+            length, kind, first, local = _FRONT(blocks, at)
+            block = blocks[at : at + length]
+            at += length
+            if kind == MESSAGE:
+                definition = current[local][0] if local in current else None
+                if definition is None:
+                    raise StreamBroken("the block of a definition is lost")
+                if local in self._describing:
+                    self._natives.learn(self._describing[local], block)
+                yield Message(block, definition)
+            elif kind == DEFINITION:
+                self._define(first, _PLACE(block, 24)[0], block)
+                definition = current[first][0]
+                assert definition is not None
+                yield DefinitionMessage(block, definition)
+            elif kind == HEADER:
+                self._natives, self._describing = Natives(), {}
+                yield FileHeader(block)
+            else:
+                yield FileEnd(block)

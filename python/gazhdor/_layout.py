@@ -1,0 +1,142 @@
+"""What a definition message says of its fields, and its block (docs/BLOCKS.md)."""
+import struct
+from typing import Iterable, List, NamedTuple, Optional, Tuple
+
+from ._bases import BYTES, Base, base_of
+from ._names import Names
+from ._profile import Info, info_of, name_of
+from ._values import Definition, Developer, Key, told
+
+_DEFINITION, _HEADER = struct.Struct("<IBBBBIIQQHHHH"), struct.Struct("<IBBBBIIQQ")
+_ENTRY = struct.Struct("<HHBBBBBBBBIIIQ")
+_MESSAGE = struct.Struct("<IBBBBIIQQQ")
+_NO_TIME = 0xFFFFFFFF
+_NO_INFO = Info("", "", 1, 0, "")
+END = struct.pack("<IBBBBIIQ", 24, 4, 0, 0, 0, 0, 0, 0)
+KINDS = ("none", "zeros", "there")
+
+
+class FieldDefinition(NamedTuple):
+    """A field as a definition message has it: its number, the code of its base type, its size in bytes, and of a developer field its
+    developer data index. Of a developer field the code is that of its description."""
+
+    number: int
+    base: int
+    size: int
+    developer: Optional[int] = None
+
+    @property
+    def key(self) -> Key:
+        return self.number if self.developer is None else (self.developer, self.number)
+
+    @property
+    def shape(self) -> Base:
+        """The base type, or bytes, where its width doesn't divide the size."""
+        base = base_of(self.base)
+        return base._replace(kind=BYTES, width=1) if self.size % base.width else base
+
+
+class Form(NamedTuple):
+    """What is said of a field beside its definition: its name, unit, scale and offset."""
+
+    field: FieldDefinition
+    info: Info
+
+
+class Kept(NamedTuple):
+    """What a definition message has beside its fields: local message type, architecture, reserved byte, and whether it says that there are
+    developer fields; None leaves that to the fields."""
+
+    local: int = 0
+    big: bool = False
+    reserved: int = 0
+    says_developers: Optional[bool] = None
+
+
+def filled(data: bytes) -> bytes:
+    return data + bytes(-len(data) % 8)
+
+
+def _text(words: str) -> bytes:
+    return filled(words.encode("utf-8", "replace") + b"\0")
+
+
+def header_block(size: int, protocol: int, profile: int, kind: int, more: bytes) -> bytes:
+    """The block of a header."""
+    data = filled(more)
+    return _HEADER.pack(32 + len(data), 1, size, protocol, kind, 0, 0, 0, profile) + data
+
+
+def form_of(message: int, field: FieldDefinition, info: Optional[Info] = None) -> Form:
+    """What the profile says of a field. Floats, texts and bytes stand for themselves."""
+    told = info or (None if field.developer is not None else info_of(message, field.number)) or _NO_INFO
+    return Form(field, told if field.shape.kind < 2 else told._replace(scale=1, offset=0))
+
+
+def _entry(form: Form, begins: int) -> bytes:
+    field, shape, info = form.field, form.field.shape, form.info
+    name, unit = _text(info.name), _text(info.unit)
+    numbers = 32 + len(name) + len(unit), 32 + len(name), field.number, field.developer is not None, field.developer or 0, field.base
+    items = shape.kind, shape.width, field.size // shape.width, 0, begins, info.scale, info.offset, shape.invalid
+    return _ENTRY.pack(*numbers, *items) + name + unit
+
+
+def definition_block(message: int, forms: Iterable[Form], kept: Kept = Kept()) -> bytes:
+    """The block of a definition message."""
+    entries: List[bytes] = []
+    begins, developers = 40, 0
+    for form in forms:
+        entries.append(_entry(form, begins))
+        begins += form.field.size + -form.field.size % 8
+        developers += form.field.developer is not None
+    rest = _text(name_of(message) or "") + b"".join(entries)
+    says = developers > 0 if kept.says_developers is None else kept.says_developers
+    counts = message, len(entries) - developers, developers, says
+    return _DEFINITION.pack(40 + len(rest), 2, kept.local, kept.big, kept.reserved, 0, begins, 0, 0, *counts) + rest
+
+
+def layout_of(message: int, forms: Iterable[Form], kept: Kept = Kept(), names: Optional[Names] = None) -> Definition:
+    """The definition of a message with such fields."""
+    return Definition(definition_block(message, forms, kept), told(names, message, {}))
+
+
+def empty_message(definition: Definition, local: int) -> bytearray:
+    """The block of a message whose fields have no values."""
+    length = message_length(definition)
+    block = bytearray(length)
+    _MESSAGE.pack_into(block, 0, length, 3, 0, local, 0xFF, 0, _NO_TIME, 0, 0, _NO_TIME)
+    for entry in definition.entries:
+        size = entry.count * entry.width
+        none = b"\xff" * size if entry.kind == BYTES else entry.invalid.to_bytes(entry.width, "little") * entry.count
+        block[entry.begins : entry.begins + size] = none
+    return block
+
+
+def message_length(definition: Definition) -> int:
+    """How long the blocks of its messages are."""
+    length: int = struct.unpack_from("<I", definition.data, 12)[0]
+    return length
+
+
+def fields_of_block(data: bytes) -> Tuple[FieldDefinition, ...]:
+    """The fields of the block of a definition message, the developer fields last."""
+    fields, developers = struct.unpack_from("<HH", data, 34)
+    at = 40 + (data.index(0, 40) - 40) // 8 * 8 + 8
+    found = []
+    for _ in range(fields + developers):
+        length, number, developer, index, code, width, count = struct.unpack_from("<H2xBBBBxBB", data, at)
+        found.append(FieldDefinition(number, code, width * count, index if developer else None))
+        at += length
+    return tuple(found)
+
+
+def described(fields: Iterable[FieldDefinition]) -> List[Tuple[Developer, int]]:
+    """The developer fields, and the width of the items of each."""
+    return [((field.developer, field.number), field.shape.width) for field in fields if field.developer is not None]
+
+
+def count_size(base: Base, count: int) -> int:
+    """The bytes of that many items."""
+    return base.width * count
+
+

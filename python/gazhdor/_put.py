@@ -1,0 +1,110 @@
+"""Columns that are written: the blocks of many messages at once."""
+import array
+import operator
+from typing import Any, Dict, List, Mapping, Optional
+
+from ._arrays import is_array, items_of_array, items_of_list
+from ._bases import FLOAT, TEXT
+from ._items import CLEAR, SURE, Packer
+from .errors import WrongValue
+
+_NUMBERS = {int, float, type(None)}
+
+
+def listed(columns: Mapping[Any, Any]) -> Dict[Any, Any]:
+    """Each column as a list or an array, all of one length."""
+    found: Dict[Any, Any] = {}
+    for key, column in columns.items():
+        if isinstance(column, (str, bytes, bytearray)):
+            raise TypeError(f"a column is a list or an array of values, and not {type(column).__name__}")
+        column = column.to_numpy() if hasattr(column, "to_numpy") else column
+        found[key] = column if is_array(column) or isinstance(column, list) else list(column)
+    lengths = {key: len(column) for key, column in found.items()}
+    if len(set(lengths.values())) > 1:
+        raise ValueError(f"the columns have different lengths: {', '.join(f'{key} {length}' for key, length in lengths.items())}")
+    return found
+
+
+def is_of_numbers(column: Any) -> bool:
+    """Whether no value of a column can need more items than one."""
+    return is_array(column) or set(map(type, column)) <= _NUMBERS
+
+
+def put_column(block: bytearray, length: int, pack: Packer, column: Any) -> None:
+    """Puts the values of a column into the blocks of messages, each of that length."""
+    entry = pack.entry
+    if entry.count != 1 or entry.kind >= TEXT:
+        _put_bytes(block, length, pack, column)
+        return
+    items = items_of_array(pack, column) if is_array(column) else items_of_list(pack, column)
+    if items is None:
+        items = memoryview(_items_of_list(pack, list(column)))
+    view = memoryview(block).cast(entry.float_code)
+    view[pack.begins // entry.width :: length // entry.width] = items
+    view.release()
+
+
+def _put_bytes(block: bytearray, length: int, pack: Packer, column: Any) -> None:
+    made = bytearray()
+    for row, value in enumerate(column):
+        try:
+            made += pack(value)
+        except WrongValue as wrong:
+            wrong.row = row
+            raise
+    for at in range(pack.size):
+        block[pack.begins + at :: length] = made[at :: pack.size]
+
+
+def _items_of_list(pack: Packer, column: List[Any]) -> Any:
+    entry = pack.entry
+    if entry.kind == FLOAT:
+        made = bytearray()
+        for row, value in enumerate(column):
+            made += _of_row(pack, pack, _none_of_nan(value), row)
+        return array.array(entry.float_code, bytes(made))
+    return array.array(entry.item_code, _quick(pack, column) or [_of_row(pack, pack.item, _none_of_nan(value), row) for row, value in enumerate(column)])
+
+
+def _none_of_nan(value: Any) -> Any:
+    """The value; None where it isn't a number, as `columns` has it."""
+    return None if type(value) is float and value != value else value
+
+
+def _of_row(pack: Packer, make: Any, value: Any, row: int) -> Any:
+    try:
+        return make(value)
+    except WrongValue as wrong:
+        wrong.row = row
+        raise
+
+
+def _quick(pack: Packer, column: List[Any]) -> Optional[List[int]]:
+    """The items of whole numbers, or of floats, all at once; None where one of them has to be looked at for itself."""
+    types = set(map(type, column))
+    if types == {int} and pack.takes_items:
+        items = column
+    elif types == {float}:
+        found = _steps(pack, column)
+        if found is None:
+            return None
+        items = found
+    else:
+        return None
+    return items if pack.has(min(items), max(items)) and pack.entry.invalid not in items else None
+
+
+def _steps(pack: Packer, column: List[float]) -> Optional[List[int]]:
+    scale, shift = float(pack.scale), float(pack.shift)
+    if not (abs(shift) < SURE and abs(min(column)) * scale < SURE and abs(max(column)) * scale < SURE):
+        return None
+    steps = [value * scale + shift for value in column]
+    try:
+        items = list(map(round, steps))
+    except ValueError:
+        return None
+    if max(map(abs, map(operator.sub, steps, items))) >= CLEAR:
+        for row, (step, item) in enumerate(zip(steps, items)):
+            if abs(step - item) >= CLEAR:
+                items[row] = pack.exactly(column[row])
+    return items

@@ -1,0 +1,158 @@
+"""What a caller says of a message that is to be written: its fields, and how many items each has."""
+from typing import Any, Dict, Iterable, List, NamedTuple, Optional, Tuple, Union
+
+from ._bases import BYTES, TEXT, Base, base_named, base_of
+from ._items import several, text_bytes
+from ._layout import FieldDefinition, Form, form_of
+from ._names import Names
+from ._profile import Info, Kind, UnknownName, fields_of, info_of, name_of, number_of, profile
+from ._values import Key, label
+
+
+class DeveloperField(NamedTuple):
+    """A developer field that a file describes, of `Writer.describe`: it names the field in `define`, and where a message is written."""
+
+    index: int
+    number: int
+    name: str
+    unit: str
+    base: int
+
+    @property
+    def key(self) -> Tuple[int, int]:
+        return self.index, self.number
+
+
+Spec = Union[Key, DeveloperField, FieldDefinition, Tuple[Any, Any], Tuple[Any, Any, int]]
+
+
+class Shape(NamedTuple):
+    """A field of a message that is to be written. `size` is None where it is that of what is written."""
+
+    key: Key
+    base: Base
+    size: Optional[int]
+    number: int
+    index: Optional[int] = None
+    info: Optional[Info] = None
+
+    def form(self, message: int, size: int) -> Form:
+        return form_of(message, FieldDefinition(self.number, self.base.code, size, self.index), self.info)
+
+    @property
+    def least(self) -> int:
+        """The size that it has where nothing is written."""
+        return self.base.width if self.size is None else self.size
+
+    def needed(self, value: Any, size: int) -> Tuple[Any, int]:
+        """A value, whose items may come one after another, and the size that it needs."""
+        if self.size is not None or value is None:
+            return value, size
+        if self.base.kind == TEXT:
+            data = text_bytes(value, label(self.key))
+            return value, min(255, max(size, len(data) + (not data.endswith(b"\0"))))
+        if self.base.kind == BYTES:
+            return value, min(255, len(value)) if isinstance(value, (bytes, bytearray, memoryview)) else size
+        if not hasattr(value, "__iter__"):
+            return value, size
+        items, width = several(value), self.base.width
+        return items, min(255 // width * width, max(size, len(items) * width))
+
+
+def message_number(message: Kind, names: Optional[Names]) -> int:
+    """The number of a message that a caller names."""
+    if isinstance(message, bool) or not isinstance(message, (str, int)):
+        raise TypeError(f"a message is named by its name or its number, and not by {type(message).__name__}")
+    number = number_of(message, names)
+    if number is None:
+        raise UnknownName("no message is named", str(message), [*profile(), *(names.messages if names else ())], "; one that has no name is named by its number")
+    if not 0 <= number <= 0xFFFF:
+        raise ValueError(f"a message is 0 to 65535, and not {number}" if number < 2**64 else "a message is 0 to 65535")
+    return number
+
+
+def _known(message: int, names: Optional[Names]) -> Dict[str, int]:
+    """The numbers of the fields of a message that have names."""
+    known = dict(fields_of(message))
+    if names:
+        known.update((named.name, number) for number, named in names.fields(message).items() if named.name)
+    return known
+
+
+def _usual(message: int, number: int, names: Optional[Names]) -> Optional[Base]:
+    """The base type that a field usually has."""
+    named = names.fields(message).get(number) if names else None
+    info = info_of(message, number)
+    told = (named.base if named else None) or (info.base if info else None)
+    return base_named(told) if told else None
+
+
+class Shapes:
+    """Makes the fields of a message of what a caller says. `developers` are the developer fields that the file describes, by their keys."""
+
+    def __init__(self, message: int, names: Optional[Names], developers: Dict[Key, DeveloperField]) -> None:
+        self._message, self._names, self._developers = message, names, developers
+
+    def all(self, told: Union[str, Iterable[Spec]]) -> List[Shape]:
+        """The shapes of fields, the developer fields last."""
+        specs = told.split() if isinstance(told, str) else list(told)
+        shapes = [self.one(spec) for spec in specs]
+        keys = [shape.key for shape in shapes]
+        if len(set(keys)) < len(keys):
+            raise ValueError(f"a field is named twice: {label(next(key for key in keys if keys.count(key) > 1))}")
+        return sorted(shapes, key=lambda shape: shape.index is not None)
+
+    def one(self, spec: Spec) -> Shape:
+        if isinstance(spec, FieldDefinition):
+            return Shape(spec.key, base_of(spec.base), _byte("a size", spec.size), _byte("a field", spec.number), spec.developer, self._info(spec.key))
+        key, told, count = spec, None, None  # type: Any, Any, Any
+        if isinstance(spec, tuple) and not isinstance(spec, DeveloperField) and not _is_numbers(spec):
+            key, told, count = (*spec, None)[:3]
+        shape = self._developer(key, told) or self._field(key, told)
+        return shape if count is None else shape._replace(size=_byte("a size", _byte("a count", count) * shape.base.width))
+
+    def _info(self, key: Key) -> Optional[Info]:
+        developer = self._developers.get(key) if isinstance(key, tuple) else None
+        return Info(developer.name, developer.unit, 1, 0, "") if developer else None
+
+    def _developer(self, key: Any, told: Any) -> Optional[Shape]:
+        """A developer field that is named by itself, by its numbers or by its name, where that isn't one of the profile."""
+        found = key if isinstance(key, DeveloperField) else self._developers.get(key) if isinstance(key, (str, tuple)) else None
+        if found is None or isinstance(key, str) and key in _known(self._message, self._names):
+            if isinstance(key, tuple):
+                raise KeyError(key)
+            return None
+        if told is not None and base_named(told).code != found.base:
+            raise ValueError(f"{found.name!r} is described as {base_of(found.base).name}")
+        return Shape(found.key, base_of(found.base), None, found.number, found.index, Info(found.name, found.unit, 1, 0, ""))
+
+    def _field(self, key: Any, told: Any) -> Shape:
+        if isinstance(key, str):
+            known = _known(self._message, self._names)
+            if key not in known:
+                of = name_of(self._message) or f"message {self._message}"
+                raise UnknownName(f"neither the profile nor the file has in {of} a field", key, [*known, *filter(_is_text, self._developers)])
+            number = known[key]
+        else:
+            number = _byte("a field", key)
+        base = base_named(told) if told is not None else _usual(self._message, number, self._names)
+        if base is None:
+            raise ValueError(f"nobody knows the base type of {label(key)}: give it, as ({key!r}, 'uint16')")
+        return Shape(number, base, None, number)
+
+
+def _is_text(key: object) -> bool:
+    return isinstance(key, str)
+
+
+def _is_numbers(spec: Tuple[Any, ...]) -> bool:
+    """Whether a tuple is the key of a developer field."""
+    return len(spec) == 2 and all(isinstance(part, int) for part in spec)
+
+
+def _byte(what: str, told: Any) -> int:
+    if isinstance(told, bool) or not isinstance(told, int):
+        raise TypeError(f"{what} is a number, and not {type(told).__name__}")
+    if not 0 <= told <= 255:
+        raise ValueError(f"{what} is 0 to 255, and not {told if told.bit_length() < 65 else 'so much'}")
+    return told

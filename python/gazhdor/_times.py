@@ -1,0 +1,22 @@
+"""Times of the FIT protocol, in seconds since 1989-12-31T00:00:00 UTC."""
+import datetime
+from typing import Optional, Union, overload
+
+Time = Union[datetime.datetime, str]
+
+EPOCH = datetime.datetime(1989, 12, 31, tzinfo=datetime.timezone.utc)
+SYSTEM_TIMES = 0x10000000  # A time below is the device's own, which didn't know the time of day.
+
+
+@overload
+def when(seconds: int) -> Time: ...
+@overload
+def when(seconds: None) -> None: ...
+@overload
+def when(seconds: Optional[int]) -> Optional[Time]: ...
+def when(seconds: Optional[int]) -> Optional[Time]:
+    """Returns the time that a field of type date_time stands for, in seconds since 1989-12-31T00:00:00 UTC: an aware datetime in UTC;
+    below 268,435,456 the text 'system+N', as the device didn't know the time. None stands for None."""
+    if seconds is None:
+        return None
+    return f"system+{seconds}" if seconds < SYSTEM_TIMES else EPOCH + datetime.timedelta(0, seconds)

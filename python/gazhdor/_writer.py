@@ -1,0 +1,262 @@
+"""Files that are written from values, and from what others have."""
+from typing import Any, Dict, Iterable, List, Mapping, Optional, Set, Tuple, Union
+
+from ._bases import base_named, base_of
+from ._events import DefinitionMessage, Everything, FileEnd, FileHeader
+from ._items import packers
+from ._layout import END, KINDS, FieldDefinition, Kept, described, fields_of_block, header_block
+from ._library import HAS_WRITER, VERSION, exact, library, text_of
+from ._messages import Message
+from ._names import Told, names_of
+from ._natives import DESCRIPTION
+from ._profile import Kind, number_of
+from ._shapes import DeveloperField, Shape, Shapes, Spec, message_number
+from ._sinks import Sink, see_sink, write
+from ._values import Definition as Known
+from ._values import Key
+from ._written import Definition
+from .errors import WrongVersion, judge
+
+_LOCALS = 16
+_DEVELOPER_DATA = 207
+_PROFILE = 21158  # the release that the names of the module are of
+
+
+def _see_library() -> None:
+    if not HAS_WRITER:
+        path = str(library._name)
+        raise WrongVersion(f"{path} is older than the module gazhdor {VERSION}: it makes no files of blocks", path)
+
+
+def from_blocks(blocks: Union[bytes, bytearray, memoryview]) -> bytes:
+    """Returns the bytes of the file or files that blocks say (docs/BLOCKS.md), as `blocks` and `Stream("blocks")` give them. It raises
+    `BlocksRefused` where they say none, with the number and the place of the block that can't stand where it is, and the reason."""
+    if not isinstance(blocks, (bytes, bytearray, memoryview)):
+        raise TypeError(f"from_blocks takes the bytes of blocks, and not {type(blocks).__name__}")
+    _see_library()
+    answer, data = text_of(library.gazhdor_from_messages, exact(blocks))
+    judge(answer)
+    return data
+
+
+class Writer:
+    """A FIT file that is written from values: to a path or a binary file object, at the end of `with`, whole or not at all.
+
+        with gazhdor.Writer("ride.fit") as out:
+            out.write("file_id", type=4, manufacturer=255, time_created=start)
+            record = out.define("record", "timestamp heart_rate position_lat position_long")
+            record.write(timestamp=start, heart_rate=120, position_lat=47.3, position_long=8.57)
+
+    Values are those that `messages` gives: numbers in the unit of the field, None for no value. A time may be a datetime; of a field in
+    semicircles an int is semicircles and a float degrees. A value between two steps of the field becomes the nearest; what doesn't fit is a
+    `WrongValue`. Where an exception leaves the `with`, nothing is written. `names` has names, units, scales and base types beside the
+    profile's. A writer is used by one thread at a time.
+    """
+
+    def __init__(self, sink: Sink, names: Told = None) -> None:
+        _see_library()
+        see_sink(sink)
+        self._sink, self._names = sink, names_of(names)
+        self._chunks: Optional[List[Union[bytes, bytearray]]] = []
+        # whether a file is begun, and whether no call was interrupted
+        self._is_open, self._is_whole = False, True
+        self._forget()
+
+    def _forget(self) -> None:
+        """What a file begins with: no definitions, and no developer fields."""
+        self._slots: List[Optional[Known]] = [None] * _LOCALS
+        self._turns, self._turn = [0] * _LOCALS, 0
+        # the last definition message of each local message type that was copied
+        self._copied: Dict[int, bytes] = {}
+        self._developers: Dict[Any, DeveloperField] = {}
+        self._indices: Set[int] = set()
+        self._kinds: Dict[Any, Definition] = {}
+
+    # ---- what is written
+
+    def file(self, protocol: int = 0x20, profile: int = _PROFILE, size: int = 14, checksum: str = "there", more: bytes = b"") -> None:
+        """Begins a file, which ends the one before it: the next of a chain. The first begins by itself, as this without arguments. The header
+        has that size, of which `more` is what comes after place 14; its checksum is 'there', 'zeros' or 'none', as only one of 12 bytes can."""
+        if checksum not in KINDS:
+            raise ValueError(f"a checksum is one of {', '.join(KINDS)}, and not {checksum!r}")
+        numbers = ("a protocol", protocol, 0x2F), ("a profile", profile, 0xFFFF), ("a size", size, 0xFF)
+        for what, number, most in numbers:
+            if isinstance(number, bool) or not isinstance(number, int) or not 0 <= number <= most:
+                raise ValueError(f"{what} is 0 to {most}")
+        if size != (12 if checksum == "none" else 14 + len(more)) or checksum == "none" and more:
+            raise ValueError("a header has 12 bytes and no checksum, or 14 and those that come after it")
+        self._begin(header_block(size, protocol, profile, KINDS.index(checksum), bytes(more)))
+
+    def define(
+        self,
+        message: Kind,
+        fields: Union[str, Iterable[Spec]],
+        local: Optional[int] = None,
+        big: bool = False,
+        reserved: int = 0,
+        says_developers: Optional[bool] = None,
+    ) -> Definition:
+        """Returns what messages of a name or number are written with, which have these fields: names in one text, or a list of names, numbers,
+        developer fields, and `(name, base type)` or `(name, base type, count)`, where the field isn't as usual. A field has as many items, a
+        text as many bytes, as what is written needs, unless `count` says it. Its definition message has the local message type `local`, or one
+        that is free, and is written before the first message."""
+        number = message_number(message, self._names)
+        shapes = Shapes(number, self._names, self._developers).all(fields)
+        if local is not None and not 0 <= local < _LOCALS:
+            raise ValueError(f"a local message type is 0 to 15, and not {local}")
+        return Definition(self, number, shapes, Kept(local or 0, big, reserved, says_developers), local)
+
+    def write(self, __message: Kind, __values: Optional[Mapping[Any, Any]] = None, **fields: Any) -> None:
+        """Writes a message of a name or number with these fields, and its definition message, where none is there for such fields. Fields that
+        are no words of Python are given by a mapping, as `{"Form power": 120, 3: 121}`."""
+        values = {**(__values or {}), **fields}
+        names = [key for key in values if not isinstance(key, str) or key[:1] != "."]
+        kind = __message, tuple(sorted(map(repr, names)))
+        if kind not in self._kinds:
+            self._kinds[kind] = self.define(__message, names)
+        self._kinds[kind].write(values)
+
+    def describe(
+        self,
+        name: str,
+        unit: str = "",
+        base: Union[str, int] = "uint16",
+        index: int = 0,
+        number: Optional[int] = None,
+        native: Optional[Tuple[Kind, int]] = None,
+        application: Optional[bytes] = None,
+    ) -> DeveloperField:
+        """Describes a developer field, and returns it: it can be named in `define`, and is a key of values. It has the developer data index
+        `index`, and the next number that is free. `native` says that it stands for a field of a message, as `("record", 7)`. `application`
+        has the 16 bytes of the application that it is of; they are written with the first field of an index."""
+        known = [of.number for of in self._developers.values() if of.index == index]
+        field = max(known, default=-1) + 1 if number is None else number
+        told: Dict[Any, Any] = {"developer_data_index": index, "field_definition_number": field, "fit_base_type_id": base_named(base).code}
+        told.update({"field_name": name, "units": unit or None})
+        fields: List[Spec] = list(told)
+        if native is not None:
+            told.update({14: message_number(native[0], self._names), 15: native[1]})
+            fields += [(14, "uint16"), (15, "uint8")]
+        definition = self.define(DESCRIPTION, fields)
+        definition.see(told)
+        if index not in self._indices:
+            self.write(_DEVELOPER_DATA, {"developer_data_index": index, **({"application_id": application} if application else {})})
+            self._indices.add(index)
+        definition.write(told)
+        return self._developers[index, field]
+
+    def copy(self, event: Everything) -> None:
+        """Writes what `messages` gives: a message, as it is or with other values (`replace`), and, with `everything`, headers, definition
+        messages and ends. What isn't changed keeps its bytes. A message whose definition message wasn't copied brings one along."""
+        if isinstance(event, Message):
+            block, definition = event._block, event._definition
+            local = block[6]
+            if self._slots[local] is not definition:
+                self._place(definition, local)
+            self._chunks.append(block)  # type: ignore[union-attr]
+            if definition.number >= DESCRIPTION:
+                self._learn(definition, block)
+        elif isinstance(event, DefinitionMessage):
+            self._emit(event._definition, event.local, event._block)
+            self._copied[event.local] = event._block
+        elif isinstance(event, FileHeader):
+            self._begin(event._block)
+        elif isinstance(event, FileEnd):
+            self._end()
+        else:
+            raise TypeError(f"what is copied is what messages gives, and not {type(event).__name__}")
+
+    # ---- the end
+
+    def finish(self) -> None:
+        """Writes the file, as the end of `with` does. After that the writer can't be used."""
+        self._end()
+        chunks = self._chunks or []
+        self.discard()
+        if not chunks:
+            raise ValueError("nothing was written, and no file is empty")
+        blocks = b"".join(chunks)
+        chunks.clear()
+        write(self._sink, from_blocks(blocks))
+
+    def discard(self) -> None:
+        """Forgets all, and writes nothing. After that the writer can't be used."""
+        self._chunks = None
+        self._forget()
+
+    def __enter__(self) -> "Writer":
+        return self
+
+    def __exit__(self, kind: object, *error: object) -> None:
+        if kind is not None:
+            self.discard()
+        elif self._chunks is not None:
+            self.finish()
+
+    # ---- blocks
+
+    def _usable(self) -> List[Union[bytes, bytearray]]:
+        if self._chunks is None:
+            raise ValueError("the writer is finished")
+        if not self._is_whole:
+            raise RuntimeError("a call of the writer was interrupted")
+        return self._chunks
+
+    def _begin(self, header: bytes) -> None:
+        self._end()
+        chunks = self._usable()
+        self._is_whole = False
+        chunks.append(header)
+        self._forget()
+        self._is_open = self._is_whole = True
+
+    def _end(self) -> None:
+        chunks = self._usable()
+        if self._is_open:
+            self._is_whole = False
+            chunks.append(END)
+            self._forget()
+            self._is_open, self._is_whole = False, True
+
+    def _emit(self, definition: Known, local: int, block: bytes) -> None:
+        """Writes a definition message of a local message type."""
+        chunks = self._usable()
+        if not self._is_open:
+            self.file()
+        if block[36] or block[37]:
+            self._see_described(fields_of_block(block))
+        self._is_whole = False
+        chunks.append(block if block[5] == local else block[:5] + bytes([local]) + block[6:])
+        self._turn += 1
+        self._slots[local], self._turns[local] = definition, self._turn
+        self._is_whole = True
+
+    def _place(self, definition: Known, local: int) -> None:
+        """Makes a local message type one of a definition that was read, by the last one that was copied, where that says the same."""
+        copied, held = self._copied.get(local), self._slots[local]
+        if held is not None and held.data[32:] == definition.data[32:]:
+            self._slots[local] = definition
+        elif copied is not None and copied[32:] == definition.data[32:]:
+            self._emit(definition, local, copied)
+        else:
+            self._emit(definition, local, definition.data)
+
+    def _see_described(self, fields: Iterable[FieldDefinition]) -> None:
+        """Raises what is wrong where a developer field isn't described here as where it comes from."""
+        for field in fields:
+            if field.developer is not None:
+                known = self._developers.get(field.key)
+                base = field._replace(base=known.base if known else 13).shape
+                if base.width != field.shape.width:
+                    raise ValueError(f"the developer field {field.key} isn't described in this file as where it comes from: copy its description first")
+
+    def _learn(self, definition: Known, block: Union[bytes, bytearray]) -> None:
+        """Takes in what a description, or the message of an application, says."""
+        told = Message(bytes(block), definition)
+        index, number, base = (told.get(key) if key in told and definition.by_key[key].count == 1 else None for key in (0, 1, 2))
+        if definition.number == _DEVELOPER_DATA:
+            self._indices.update(filter(None.__ne__, [told.get(3)]))
+        elif definition.number == DESCRIPTION and None not in (index, number, base):
+            name, unit = (str(told.get(key) or "") for key in (3, 8))
+            self._developers[index, number] = DeveloperField(index, number, name, unit, base)
+            self._developers[name] = self._developers[index, number]
