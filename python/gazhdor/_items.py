@@ -41,7 +41,7 @@ class Packer:
     """What makes the items of a field of a value. A value is what `messages` gives: a number in the unit of the field, or None. Of a field in
     semicircles a float is degrees; a time may be a datetime, or the text 'system+N'."""
 
-    __slots__ = ("entry", "begins", "size", "none", "_least", "_most", "_pack", "scale", "shift", "_is_plain", "_is_degrees", "_ratio")
+    __slots__ = ("entry", "begins", "size", "none", "_least", "_most", "_pack", "scale", "shift", "_is_plain", "_is_degrees", "_is_direct", "_ratio")
 
     def __init__(self, entry: Entry) -> None:
         self.entry, self.begins, self.size = entry, entry.begins, entry.count * entry.width
@@ -53,6 +53,7 @@ class Packer:
         self.scale = Fraction(2**31, 180) if self._is_degrees else Fraction(entry.scale)
         self.shift = Fraction(0) if self._is_degrees else Fraction(entry.scale) * Fraction(entry.offset)
         self._is_plain = not entry.is_scaled
+        self._is_direct = self.takes_items and entry.kind < FLOAT and entry.count == 1
         of, to = self.scale, self.shift
         self._ratio = (of.numerator * to.denominator, to.numerator * of.denominator), of.denominator * to.denominator
 
@@ -182,6 +183,8 @@ class Packer:
     def __call__(self, value: Any) -> bytes:
         """All bytes of the field."""
         entry = self.entry
+        if type(value) is int and self._is_direct and self._least <= value <= self._most and value != entry.invalid:
+            return self._pack(value)
         if value is None:
             return self.none
         if entry.kind == TEXT:

@@ -1,11 +1,11 @@
 """What a definition message says of its fields, and its block (docs/BLOCKS.md)."""
 import struct
-from typing import Iterable, List, NamedTuple, Optional, Tuple
+from typing import Dict, Iterable, List, NamedTuple, Optional, Tuple
 
 from ._bases import BYTES, Base, base_of
 from ._names import Names
 from ._profile import Info, info_of, name_of
-from ._values import Definition, Developer, Key, told
+from ._values import Definition, Key, told
 
 _DEFINITION, _HEADER = struct.Struct("<IBBBBIIQQHHHH"), struct.Struct("<IBBBBIIQQ")
 _ENTRY = struct.Struct("<HHBBBBBBBBIIIQ")
@@ -14,6 +14,7 @@ _NO_TIME = 0xFFFFFFFF
 _NO_INFO = Info("", "", 1, 0, "")
 END = struct.pack("<IBBBBIIQ", 24, 4, 0, 0, 0, 0, 0, 0)
 KINDS = ("none", "zeros", "there")
+_MOST_KNOWN = 256
 
 
 class FieldDefinition(NamedTuple):
@@ -95,9 +96,21 @@ def definition_block(message: int, forms: Iterable[Form], kept: Kept = Kept()) -
     return _DEFINITION.pack(40 + len(rest), 2, kept.local, kept.big, kept.reserved, 0, begins, 0, 0, *counts) + rest
 
 
-def layout_of(message: int, forms: Iterable[Form], kept: Kept = Kept(), names: Optional[Names] = None) -> Definition:
-    """The definition of a message with such fields."""
-    return Definition(definition_block(message, forms, kept), told(names, message, {}))
+class Layouts:
+    """What is known of definitions that are written, by their fields, so that one which comes again isn't looked into again."""
+
+    def __init__(self, names: Optional[Names]) -> None:
+        self._names = names
+        self._known: Dict[bytes, Definition] = {}
+
+    def of(self, block: bytes) -> Definition:
+        """The definition of a block. It may be that of another local message type or architecture."""
+        known = self._known.get(block[32:])
+        if known is None:
+            if len(self._known) == _MOST_KNOWN:
+                self._known.clear()
+            known = self._known[block[32:]] = Definition(block, told(self._names, int.from_bytes(block[32:34], "little"), {}))
+        return known
 
 
 def empty_message(definition: Definition, local: int) -> bytearray:
@@ -128,15 +141,3 @@ def fields_of_block(data: bytes) -> Tuple[FieldDefinition, ...]:
         found.append(FieldDefinition(number, code, width * count, index if developer else None))
         at += length
     return tuple(found)
-
-
-def described(fields: Iterable[FieldDefinition]) -> List[Tuple[Developer, int]]:
-    """The developer fields, and the width of the items of each."""
-    return [((field.developer, field.number), field.shape.width) for field in fields if field.developer is not None]
-
-
-def count_size(base: Base, count: int) -> int:
-    """The bytes of that many items."""
-    return base.width * count
-
-

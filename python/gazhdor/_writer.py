@@ -1,21 +1,21 @@
 """Files that are written from values, and from what others have."""
 from typing import Any, Dict, Iterable, List, Mapping, Optional, Set, Tuple, Union
 
-from ._bases import base_named, base_of
+from ._answers import UNWRITABLE
+from ._bases import base_named
 from ._events import DefinitionMessage, Everything, FileEnd, FileHeader
-from ._items import packers
-from ._layout import END, KINDS, FieldDefinition, Kept, described, fields_of_block, header_block
+from ._layout import END, KINDS, FieldDefinition, Kept, Layouts, fields_of_block, header_block
 from ._library import HAS_WRITER, VERSION, exact, library, text_of
 from ._messages import Message
 from ._names import Told, names_of
 from ._natives import DESCRIPTION
-from ._profile import Kind, number_of
-from ._shapes import DeveloperField, Shape, Shapes, Spec, message_number
+from ._profile import Kind
+from ._shapes import DeveloperField, Shapes, Spec, message_number
 from ._sinks import Sink, see_sink, write
 from ._values import Definition as Known
 from ._values import Key
 from ._written import Definition
-from .errors import WrongVersion, judge
+from .errors import BlocksRefused, WrongVersion, judge
 
 _LOCALS = 16
 _DEVELOPER_DATA = 207
@@ -35,6 +35,8 @@ def from_blocks(blocks: Union[bytes, bytearray, memoryview]) -> bytes:
         raise TypeError(f"from_blocks takes the bytes of blocks, and not {type(blocks).__name__}")
     _see_library()
     answer, data = text_of(library.gazhdor_from_messages, exact(blocks))
+    if answer._status == UNWRITABLE:
+        raise BlocksRefused(answer)
     judge(answer)
     return data
 
@@ -58,13 +60,15 @@ class Writer:
         see_sink(sink)
         self._sink, self._names = sink, names_of(names)
         self._chunks: Optional[List[Union[bytes, bytearray]]] = []
+        self._layouts = Layouts(self._names)
         # whether a file is begun, and whether no call was interrupted
         self._is_open, self._is_whole = False, True
         self._forget()
 
     def _forget(self) -> None:
         """What a file begins with: no definitions, and no developer fields."""
-        self._slots: List[Optional[Known]] = [None] * _LOCALS
+        # what each local message type is of: the definition of what was copied, or the block of a definition that was made here
+        self._slots: List[Optional[object]] = [None] * _LOCALS
         self._turns, self._turn = [0] * _LOCALS, 0
         # the last definition message of each local message type that was copied
         self._copied: Dict[int, bytes] = {}
@@ -218,7 +222,7 @@ class Writer:
             self._forget()
             self._is_open, self._is_whole = False, True
 
-    def _emit(self, definition: Known, local: int, block: bytes) -> None:
+    def _emit(self, definition: object, local: int, block: bytes) -> None:
         """Writes a definition message of a local message type."""
         chunks = self._usable()
         if not self._is_open:
@@ -234,7 +238,7 @@ class Writer:
     def _place(self, definition: Known, local: int) -> None:
         """Makes a local message type one of a definition that was read, by the last one that was copied, where that says the same."""
         copied, held = self._copied.get(local), self._slots[local]
-        if held is not None and held.data[32:] == definition.data[32:]:
+        if isinstance(held, Known) and held.data[32:] == definition.data[32:]:
             self._slots[local] = definition
         elif copied is not None and copied[32:] == definition.data[32:]:
             self._emit(definition, local, copied)

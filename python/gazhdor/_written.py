@@ -2,7 +2,7 @@
 from typing import TYPE_CHECKING, Any, Dict, List, Mapping, Optional, Tuple
 
 from ._items import Packer, packers
-from ._layout import Kept, empty_message, layout_of
+from ._layout import Kept, definition_block, empty_message
 from ._profile import UnknownName
 from ._put import is_of_numbers, listed, put_column
 from ._shapes import DeveloperField, Shape
@@ -23,20 +23,23 @@ class Definition:
     def __init__(self, writer: "Writer", number: int, shapes: List[Shape], kept: Kept, local: Optional[int]) -> None:
         self._writer, self._number, self._shapes, self._kept = writer, number, shapes, kept
         self._wanted, self._local = local, kept.local
-        self._layouts: Dict[Tuple[int, ...], Known] = {}
+        # of each size of the fields the block, and what it says
+        self._layouts: Dict[Tuple[int, ...], Tuple[bytes, Known]] = {}
         self._lay([shape.least for shape in shapes])
 
     def _lay(self, sizes: List[int]) -> None:
         """Makes the fields of such sizes."""
         self._sizes = sizes
-        known = self._layouts.get(tuple(sizes))
-        if known is None:
+        found = self._layouts.get(tuple(sizes))
+        if found is None:
             forms = [shape.form(self._number, size) for shape, size in zip(self._shapes, sizes)]
-            known = layout_of(self._number, forms, self._kept, self._writer._names)
+            block = definition_block(self._number, forms, self._kept)
+            found = block, self._writer._layouts.of(block)
             if len(self._layouts) == _MOST:
                 self._layouts.clear()
-            self._layouts[tuple(sizes)] = known
-        self._known, self._packers = known, packers(known)
+            self._layouts[tuple(sizes)] = found
+        self._block, self._known = found
+        known, self._packers = self._known, packers(self._known)
         self._places = {id(entry): place for place, entry in enumerate(known.entries)}
         self._empty = empty_message(known, self._local)
 
@@ -65,12 +68,12 @@ class Definition:
     def see(self, values: Mapping[Any, Any]) -> bytearray:
         """The block of a message with these values. What they can't have is raised."""
         values = self._fitted(values)
-        block = bytearray(self._empty)
+        block, packs = bytearray(self._empty), self._packers
         for key, value in values.items():
             if key == _OFFSET:
                 block[7] = _offset(value)
             else:
-                pack = self._packer(key)
+                pack = packs.get(key) or self._packer(key)
                 block[pack.begins : pack.begins + pack.size] = pack(value)
         return block
 
@@ -83,6 +86,11 @@ class Definition:
         self._put(block)
         if self._number >= 206:
             self._writer._learn(self._known, block)
+
+    def begin(self) -> None:
+        """Writes the definition message now, also where no message comes, or the same one stands already."""
+        self._local = self._place()
+        self._writer._emit(self._block, self._local, self._block)
 
     def columns(self, __columns: Optional[Mapping[Any, Any]] = None, **fields: Any) -> None:
         """Writes a message for each row of columns of one length: lists, arrays of numpy, series of pandas, or whatever gives values one after
@@ -115,9 +123,8 @@ class Definition:
     def _put(self, block: bytearray) -> None:
         """Writes messages of the definition, and that before them where it isn't the last of its local message type."""
         writer = self._writer
-        if writer._slots[self._local] is not self._known:
-            self._local = self._place()
-            writer._emit(self._known, self._local, self._known.data)
+        if writer._slots[self._local] is not self._block:
+            self.begin()
         writer._turn += 1
         writer._turns[self._local] = writer._turn
         if block[6] != self._local:
@@ -132,7 +139,7 @@ class Definition:
         if self._wanted is not None:
             return self._wanted
         held = writer._slots[self._local]
-        if held is not None and held in self._layouts.values():
+        if any(held is block for block, _ in self._layouts.values()):
             return self._local
         return writer._slots.index(None) if None in writer._slots else writer._turns.index(min(writer._turns))
 
