@@ -1,10 +1,11 @@
-"""The command: python3 -m gazhdor check|show|table|json|gpx|to-csv|from-csv|mend [FILE..]"""
+"""The command: python3 -m gazhdor check|show|table|json|gpx|to-csv|from-csv|mend [FILE..], and edit and join."""
 import contextlib
 import os
 import sys
 from typing import Iterator, List, NamedTuple, Optional, Tuple
 
 from . import EXTRA, FitError, Names, __version__, check, from_csv, mend
+from ._changes import COMMANDS, USAGE, run
 from ._gpx import parts
 from ._json import line
 from ._sources import Source, bytes_of
@@ -13,7 +14,8 @@ from ._streams import each, messages
 _TEXTS = {"show": "show", "to-csv": "to_csv", "table": "table"}
 _COMMANDS = ("check", "json", "gpx", "from-csv", "mend", *_TEXTS)
 _USAGE = """usage: python3 -m gazhdor check|show|table|gpx|to-csv|from-csv|mend [FILE..]
-       python3 -m gazhdor json [--extra] [--names TSV] [FILE..]"""
+       python3 -m gazhdor json [--extra] [--names TSV] [FILE..]
+""" + USAGE
 
 
 class _NotWritten(Exception):
@@ -102,6 +104,8 @@ def _main(words: List[str]) -> int:
     if words[:1] == ["--version"]:
         print(f"gazhdor {__version__}")
         return 0
+    if words and words[0] in COMMANDS:
+        return run(words)
     try:
         asked = _asked(words)
     except (OSError, ValueError) as error:

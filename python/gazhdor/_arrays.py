@@ -73,7 +73,7 @@ def _packed(pack: Packer, items: Any, none: Any) -> Optional[memoryview]:
     values = items if none is None else items[~none]
     if len(values) and not (pack.has(int(values.min()), int(values.max())) and not (values == entry.invalid).any()):
         return None
-    made = numpy.full(len(items), entry.invalid, numpy.dtype(entry.item_code))
+    made: Any = numpy.full(len(items), entry.invalid, numpy.dtype(entry.item_code))
     if none is None:
         made[:] = items
     else:
@@ -87,7 +87,7 @@ def _floats(pack: Packer, column: Any) -> Optional[memoryview]:
 
     width = pack.entry.width
     with numpy.errstate(over="ignore"):
-        made = column.astype(f"f{width}")
+        made: Any = column.astype(f"f{width}")
     if (numpy.isinf(made) & ~numpy.isinf(column.astype("f8"))).any():
         return None
     made.view(f"u{width}")[numpy.isnan(column.astype("f8"))] = pack.entry.invalid

@@ -2,12 +2,13 @@
 import importlib
 from typing import Any, Callable, Dict, Iterable, List, NamedTuple, Optional, Set
 
+from ._bases import FLOAT
 from ._names import Told, names_of
 from ._parts import DATE, DEGREES, LOCAL, VALUE, Asked, Cell, Part, Piece, Table, told
 from ._profile import Kind
 from ._sources import Source
 from ._times import EPOCH, SYSTEM_TIMES
-from ._values import FLOAT, Entry, Key, label
+from ._values import Entry, Key, label
 
 _UNIX = int(EPOCH.timestamp())
 

@@ -99,11 +99,11 @@ class Packer:
     @property
     def takes_items(self) -> bool:
         """Whether a whole number that is written is the item itself."""
-        return self._is_plain or self._is_degrees
+        return bool(self._is_plain or self._is_degrees)
 
     def has(self, least: int, most: int) -> bool:
         """Whether items from the one to the other fit."""
-        return self._least <= least and most <= self._most
+        return bool(self._least <= least and most <= self._most)
 
     def _number(self, value: Any) -> Any:
         """An int, a float or a fraction of any type of number or time."""

@@ -4,7 +4,8 @@ import json
 import math
 from typing import Any, Callable, List, NamedTuple, Optional, Tuple
 
-from ._messages import Message, Time
+from ._messages import Message
+from ._times import Time
 from ._values import Definition, Reader
 
 _text: Callable[[Any], str] = json.JSONEncoder(ensure_ascii=False, allow_nan=False, separators=(",", ":")).encode

@@ -183,7 +183,8 @@ class Message(Mapping[Key, Any]):
         by a mapping: `message.replace({3: 121, "Form power": None}, position_lat=None)`. A value is what `messages` gives; of a field in
         semicircles a float is degrees, and a time may be a datetime. What a field can't have is a `WrongValue`."""
         block, packs = bytearray(self._block), packers(self._definition)
-        for key, value in {**(values or {}), **fields}.items():
+        changes: Dict[Any, Any] = {**(values or {}), **fields}
+        for key, value in changes.items():
             if key not in packs:
                 raise self._missing(key)
             pack = packs[key]

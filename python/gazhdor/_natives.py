@@ -1,7 +1,8 @@
 """The fields that developer fields stand for, as field description messages say it (FIT protocol, "Developer Fields")."""
 from typing import Dict, Optional, Tuple
 
-from ._values import SIGNED, Definition, Developer, Entry, developers
+from ._bases import SIGNED
+from ._values import Definition, Developer, Entry, developers
 
 DESCRIPTION = 206
 _INDEX, _NUMBER, _TYPE, _MESSAGE, _FIELD = 0, 1, 2, 14, 15

@@ -3,13 +3,14 @@ import datetime
 from itertools import repeat
 from typing import Any, Dict, Iterable, Iterator, List, NamedTuple, Optional, Tuple
 
+from ._bases import FLOAT
 from ._blocks import Walk
 from ._names import Names
 from ._profile import Kind, see_fields
 from ._sources import Source
 from ._streams import each
 from ._times import EPOCH, SYSTEM_TIMES, when
-from ._values import FLOAT, Definition, Entry, Key, as_value, degrees, whole_number
+from ._values import Definition, Entry, Key, as_value, degrees, whole_number
 from .errors import FitError, TooManyCells
 
 TIME = "timestamp"

@@ -1,6 +1,5 @@
 """Columns that are written: the blocks of many messages at once."""
 import array
-import operator
 from typing import Any, Dict, List, Mapping, Optional
 
 from ._arrays import is_array, items_of_array, items_of_list
@@ -100,11 +99,10 @@ def _steps(pack: Packer, column: List[float]) -> Optional[List[int]]:
         return None
     steps = [value * scale + shift for value in column]
     try:
-        items = list(map(round, steps))
+        items: List[int] = [round(step) for step in steps]
     except ValueError:
         return None
-    if max(map(abs, map(operator.sub, steps, items))) >= CLEAR:
-        for row, (step, item) in enumerate(zip(steps, items)):
-            if abs(step - item) >= CLEAR:
-                items[row] = pack.exactly(column[row])
+    for row, (step, item) in enumerate(zip(steps, items)):
+        if abs(step - item) >= CLEAR:
+            items[row] = pack.exactly(column[row])
     return items

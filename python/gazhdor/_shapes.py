@@ -12,7 +12,7 @@ from ._values import Key, label
 class DeveloperField(NamedTuple):
     """A developer field that a file describes, of `Writer.describe`: it names the field in `define`, and where a message is written."""
 
-    index: int
+    developer: int
     number: int
     name: str
     unit: str
@@ -20,7 +20,7 @@ class DeveloperField(NamedTuple):
 
     @property
     def key(self) -> Tuple[int, int]:
-        return self.index, self.number
+        return self.developer, self.number
 
 
 Spec = Union[Key, DeveloperField, FieldDefinition, Tuple[Any, Any], Tuple[Any, Any, int]]
@@ -33,11 +33,11 @@ class Shape(NamedTuple):
     base: Base
     size: Optional[int]
     number: int
-    index: Optional[int] = None
+    developer: Optional[int] = None
     info: Optional[Info] = None
 
     def form(self, message: int, size: int) -> Form:
-        return form_of(message, FieldDefinition(self.number, self.base.code, size, self.index), self.info)
+        return form_of(message, FieldDefinition(self.number, self.base.code, size, self.developer), self.info)
 
     @property
     def least(self) -> int:
@@ -95,12 +95,12 @@ class Shapes:
 
     def all(self, told: Union[str, Iterable[Spec]]) -> List[Shape]:
         """The shapes of fields, the developer fields last."""
-        specs = told.split() if isinstance(told, str) else list(told)
+        specs: List[Spec] = [*told.split()] if isinstance(told, str) else list(told)
         shapes = [self.one(spec) for spec in specs]
         keys = [shape.key for shape in shapes]
         if len(set(keys)) < len(keys):
             raise ValueError(f"a field is named twice: {label(next(key for key in keys if keys.count(key) > 1))}")
-        return sorted(shapes, key=lambda shape: shape.index is not None)
+        return sorted(shapes, key=lambda shape: shape.developer is not None)
 
     def one(self, spec: Spec) -> Shape:
         if isinstance(spec, FieldDefinition):
@@ -117,21 +117,23 @@ class Shapes:
 
     def _developer(self, key: Any, told: Any) -> Optional[Shape]:
         """A developer field that is named by itself, by its numbers or by its name, where that isn't one of the profile."""
-        found = key if isinstance(key, DeveloperField) else self._developers.get(key) if isinstance(key, (str, tuple)) else None
+        found: Optional[DeveloperField] = key if isinstance(key, DeveloperField) else None
+        if found is None and isinstance(key, (str, tuple)):
+            found = self._developers.get(key)  # type: ignore[arg-type]
         if found is None or isinstance(key, str) and key in _known(self._message, self._names):
             if isinstance(key, tuple):
                 raise KeyError(key)
             return None
         if told is not None and base_named(told).code != found.base:
             raise ValueError(f"{found.name!r} is described as {base_of(found.base).name}")
-        return Shape(found.key, base_of(found.base), None, found.number, found.index, Info(found.name, found.unit, 1, 0, ""))
+        return Shape(found.key, base_of(found.base), None, found.number, found.developer, Info(found.name, found.unit, 1, 0, ""))
 
     def _field(self, key: Any, told: Any) -> Shape:
         if isinstance(key, str):
             known = _known(self._message, self._names)
             if key not in known:
                 of = name_of(self._message) or f"message {self._message}"
-                raise UnknownName(f"neither the profile nor the file has in {of} a field", key, [*known, *filter(_is_text, self._developers)])
+                raise UnknownName(f"neither the profile nor the file has in {of} a field", key, [*known, *(name for name in self._developers if isinstance(name, str))])
             number = known[key]
         else:
             number = _byte("a field", key)
@@ -139,10 +141,6 @@ class Shapes:
         if base is None:
             raise ValueError(f"nobody knows the base type of {label(key)}: give it, as ({key!r}, 'uint16')")
         return Shape(number, base, None, number)
-
-
-def _is_text(key: object) -> bool:
-    return isinstance(key, str)
 
 
 def _is_numbers(spec: Tuple[Any, ...]) -> bool:

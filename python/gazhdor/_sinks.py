@@ -65,7 +65,9 @@ def _write_path(path: str, data: bytes) -> None:
                 os.chmod(made, stat.S_IMODE(mode))
             file.write(data)
         os.replace(made, path)
-    except BaseException:
+    except BaseException as error:
         if os.path.exists(made):
             os.unlink(made)
+        if isinstance(error, OSError) and error.filename == made:
+            error.filename = path
         raise

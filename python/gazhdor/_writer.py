@@ -4,6 +4,7 @@ from typing import Any, Dict, Iterable, List, Mapping, Optional, Set, Tuple, Uni
 from ._answers import UNWRITABLE
 from ._bases import base_named
 from ._events import DefinitionMessage, Everything, FileEnd, FileHeader
+from ._header_times import is_out_of_time, with_time
 from ._layout import END, KINDS, FieldDefinition, Kept, Layouts, fields_of_block, header_block
 from ._library import HAS_WRITER, VERSION, exact, library, text_of
 from ._messages import Message
@@ -75,6 +76,8 @@ class Writer:
         self._developers: Dict[Any, DeveloperField] = {}
         self._indices: Set[int] = set()
         self._kinds: Dict[Any, Definition] = {}
+        # the time that was written last, as a message's block has it
+        self._time: Optional[bytes] = None
 
     # ---- what is written
 
@@ -133,7 +136,7 @@ class Writer:
         """Describes a developer field, and returns it: it can be named in `define`, and is a key of values. It has the developer data index
         `index`, and the next number that is free. `native` says that it stands for a field of a message, as `("record", 7)`. `application`
         has the 16 bytes of the application that it is of; they are written with the first field of an index."""
-        known = [of.number for of in self._developers.values() if of.index == index]
+        known = [of.number for of in self._developers.values() if of.developer == index]
         field = max(known, default=-1) + 1 if number is None else number
         told: Dict[Any, Any] = {"developer_data_index": index, "field_definition_number": field, "fit_base_type_id": base_named(base).code}
         told.update({"field_name": name, "units": unit or None})
@@ -151,13 +154,18 @@ class Writer:
 
     def copy(self, event: Everything) -> None:
         """Writes what `messages` gives: a message, as it is or with other values (`replace`), and, with `everything`, headers, definition
-        messages and ends. What isn't changed keeps its bytes. A message whose definition message wasn't copied brings one along."""
+        messages and ends. What isn't changed keeps its bytes. A message whose definition message wasn't copied brings one along, and one whose
+        time is in its header gets a timestamp where messages before it are left out, from which that time counts."""
         if isinstance(event, Message):
             block, definition = event._block, event._definition
             local = block[6]
+            if block[7] != 0xFF and is_out_of_time(block, self._time):
+                definition, block = with_time(definition, block)
             if self._slots[local] is not definition:
                 self._place(definition, local)
             self._chunks.append(block)  # type: ignore[union-attr]
+            if block[5] & 1:
+                self._time = block[12:16]
             if definition.number >= DESCRIPTION:
                 self._learn(definition, block)
         elif isinstance(event, DefinitionMessage):

@@ -1,6 +1,7 @@
 """Messages of one kind that are written."""
 from typing import TYPE_CHECKING, Any, Dict, List, Mapping, Optional, Tuple
 
+from ._header_times import NO_TIME
 from ._items import Packer, packers
 from ._layout import Kept, definition_block, empty_message
 from ._profile import UnknownName
@@ -40,6 +41,8 @@ class Definition:
             self._layouts[tuple(sizes)] = found
         self._block, self._known = found
         known, self._packers = self._known, packers(self._known)
+        time = known.by_key.get(253)
+        self._time_at = time.begins if time is not None and time.type and not time.is_scaled else None
         self._places = {id(entry): place for place, entry in enumerate(known.entries)}
         self._empty = empty_message(known, self._local)
 
@@ -127,11 +130,14 @@ class Definition:
             self.begin()
         writer._turn += 1
         writer._turns[self._local] = writer._turn
+        length = len(self._empty)
         if block[6] != self._local:
             self._empty[6] = self._local
-            length = len(self._empty)
             block[6::length] = bytes([self._local]) * (len(block) // length)
         writer._usable().append(block)
+        if self._time_at is not None:
+            time = block[len(block) - length + self._time_at :][:4]
+            writer._time = writer._time if time == NO_TIME else bytes(time)
 
     def _place(self) -> int:
         """The local message type that it gets: that which it was given, one that is free, or that which was used least lately."""
