@@ -207,9 +207,12 @@ class Packer:
         if isinstance(value, (bool, str, datetime.datetime)) or not isinstance(value, (numbers.Real, decimal.Decimal)):
             raise self._no_float(value)
         try:
-            made = self._pack(float(value))
+            number = float(value)
+            made = self._pack(number)
         except (OverflowError, ValueError):
             raise self._no_float(value) from None
+        if math.isinf(number) and value != number:
+            raise self._no_float(value)
         return made
 
     def _no_float(self, value: Any) -> WrongValue:

@@ -9,7 +9,7 @@ _INDEX, _NUMBER, _TYPE, _MESSAGE, _FIELD = 0, 1, 2, 14, 15
 _NO_MESSAGE, _NO_FIELD = 0xFFFF, 0xFF
 
 
-def _number(entry: Optional[Entry], width: int, block: bytes) -> Optional[int]:
+def lone_number(entry: Optional[Entry], width: int, block: bytes) -> Optional[int]:
     """The lone number of such a width that a field has."""
     if entry is None or entry.width != width or entry.count != 1:
         return None
@@ -26,15 +26,15 @@ class Natives:
     def learn(self, definition: Definition, block: bytes) -> None:
         """Takes in a field description message."""
         get = definition.by_key.get
-        index, number, kind = (_number(get(field), 1, block) for field in (_INDEX, _NUMBER, _TYPE))
+        index, number, kind = (lone_number(get(field), 1, block) for field in (_INDEX, _NUMBER, _TYPE))
         if index is None or number is None or kind is None:
             return  # It describes nothing, in the library neither.
         entry = get(_FIELD)
-        native = _number(entry, 1, block) if entry and entry.kind <= SIGNED else None
+        native = lone_number(entry, 1, block) if entry and entry.kind <= SIGNED else None
         if native is None or native == _NO_FIELD:
             self._told.pop((index, number), None)
         else:
-            message = _number(get(_MESSAGE), 2, block)
+            message = lone_number(get(_MESSAGE), 2, block)
             self._told[index, number] = None if message == _NO_MESSAGE else message, native
 
     def of(self, definition: bytes) -> Dict[Developer, int]:

@@ -17,7 +17,7 @@ def listed(columns: Mapping[Any, Any]) -> Dict[Any, Any]:
         if isinstance(column, (str, bytes, bytearray)):
             raise TypeError(f"a column is a list or an array of values, and not {type(column).__name__}")
         column = column.to_numpy() if hasattr(column, "to_numpy") else column
-        found[key] = column if is_array(column) or isinstance(column, list) else list(column)
+        found[key] = column if is_array(column) else list(column)
     lengths = {key: len(column) for key, column in found.items()}
     if len(set(lengths.values())) > 1:
         raise ValueError(f"the columns have different lengths: {', '.join(f'{key} {length}' for key, length in lengths.items())}")
@@ -37,7 +37,9 @@ def put_column(block: bytearray, length: int, pack: Packer, column: Any) -> None
         return
     items = items_of_array(pack, column) if is_array(column) else items_of_list(pack, column)
     if items is None:
-        items = memoryview(_items_of_list(pack, list(column)))
+        # Times of an array stay such, which as plain numbers would be of any unit.
+        is_plain = not isinstance(column, list) and column.dtype.kind != "M"
+        items = memoryview(_items_of_list(pack, column.tolist() if is_plain else list(column)))
     view = memoryview(block).cast(entry.float_code)
     view[pack.begins // entry.width :: length // entry.width] = items
     view.release()

@@ -39,7 +39,7 @@ def see_sink(sink: Any) -> None:
 def write(sink: Any, data: bytes) -> None:
     """Writes all bytes of a file."""
     if isinstance(sink, (str, os.PathLike)):
-        _write_path(os.path.realpath(os.fspath(sink)), data)
+        _write_path(os.fspath(sink), data)
         return
     rest = memoryview(data)
     while len(rest):
@@ -58,6 +58,7 @@ def _write_path(path: str, data: bytes) -> None:
         with open(path, "wb") as device:
             device.write(data)
         return
+    path = os.path.realpath(path)
     made = os.path.join(os.path.dirname(path), f".gazhdor-{os.getpid()}-{os.urandom(4).hex()}")
     try:
         with open(made, "xb") as file:

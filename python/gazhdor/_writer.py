@@ -9,7 +9,7 @@ from ._layout import END, KINDS, FieldDefinition, Kept, Layouts, fields_of_block
 from ._library import HAS_WRITER, VERSION, exact, library, text_of
 from ._messages import Message
 from ._names import Told, names_of
-from ._natives import DESCRIPTION
+from ._natives import DESCRIPTION, lone_number
 from ._profile import Kind
 from ._shapes import DeveloperField, Shapes, Spec, message_number
 from ._sinks import Sink, see_sink, write
@@ -74,7 +74,7 @@ class Writer:
         # the last definition message of each local message type that was copied
         self._copied: Dict[int, bytes] = {}
         self._developers: Dict[Any, DeveloperField] = {}
-        self._indices: Set[int] = set()
+        self._indices: Set[Optional[int]] = set()
         self._kinds: Dict[Any, Definition] = {}
         # the time that was written last, as a message's block has it
         self._time: Optional[bytes] = None
@@ -219,7 +219,6 @@ class Writer:
         chunks = self._usable()
         self._is_whole = False
         chunks.append(header)
-        self._forget()
         self._is_open = self._is_whole = True
 
     def _end(self) -> None:
@@ -264,11 +263,12 @@ class Writer:
 
     def _learn(self, definition: Known, block: Union[bytes, bytearray]) -> None:
         """Takes in what a description, or the message of an application, says."""
-        told = Message(bytes(block), definition)
-        index, number, base = (told.get(key) if key in told and definition.by_key[key].count == 1 else None for key in (0, 1, 2))
+        data, get = bytes(block), definition.by_key.get
         if definition.number == _DEVELOPER_DATA:
-            self._indices.update(filter(None.__ne__, [told.get(3)]))
-        elif definition.number == DESCRIPTION and None not in (index, number, base):
-            name, unit = (str(told.get(key) or "") for key in (3, 8))
-            self._developers[index, number] = DeveloperField(index, number, name, unit, base)
-            self._developers[name] = self._developers[index, number]
+            self._indices.add(lone_number(get(3), 1, data))
+        elif definition.number == DESCRIPTION:
+            index, number, base = (lone_number(get(key), 1, data) for key in (0, 1, 2))
+            if index is not None and number is not None and base is not None:
+                told = Message(data, definition)
+                name, unit = (str(told.get(key) or "") for key in (3, 8))
+                self._developers[index, number] = self._developers[name] = DeveloperField(index, number, name, unit, base)
