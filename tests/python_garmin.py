@@ -95,6 +95,52 @@ class Garmin(unittest.TestCase):
                     self.assertGreater(scaled, 3)
 
 
+    def test_written(self):
+        """What is written from values is read as these."""
+        path = os.path.join(WORK, "written.fit")
+        with gazhdor.Writer(path) as out:
+            out.write("file_id", type=4, manufacturer=255, time_created=1147937400)
+            power = out.describe("Form power", "watts", "uint16")
+            record = out.define("record", ["timestamp", "position_lat", "altitude", "heart_rate", "distance", power])
+            for k in range(300):
+                record.write({"timestamp": 1147937400 + k, "position_lat": k / 7, "altitude": k / 3, "heart_rate": k % 254, "distance": k * 3.3, power: 2 * k})
+            columns = {"timestamp": [1147937700 + k for k in range(300)], "altitude": [k / 3 for k in range(300)], "distance": [k * 7.7 for k in range(300)]}
+            out.define("record", list(columns), big=True).columns(columns)
+            out.write("sport", name="Kaltern am See", sport=2)
+            out.write("hrv", time=(0.5, 0.625, 0.75))
+            out.write("session", timestamp=1147938000, start_time=1147937400, total_elapsed_time=600.5, total_distance=2310.25, avg_speed=3.85)
+        self.assertEqual(self.compare(path), (604, 2 * 300 + 2 * 300 + 3 + 3))
+
+    def test_edited(self):
+        path = os.path.join(WORK, "edited.fit")
+        for words in (["edit", "--drop", "position", "--shift", "3600", "examples/ride.fit"], ["join", "--one", "examples/ride.fit", path]):
+            into = path if words[0] == "edit" else os.path.join(WORK, "joined.fit")
+            subprocess.run([sys.executable, "-m", "gazhdor", *words, into], check=True, stderr=subprocess.DEVNULL)
+            messages, scaled = self.compare(into)
+            self.assertGreater(scaled, 300)
+
+
+class Types(unittest.TestCase):
+    def test_base_types(self):
+        """The base types of the fields whose type has a name there."""
+        said = subprocess.run(["perl", "tests/garmin_types.pl", FOLDER], stdout=subprocess.PIPE, check=True, encoding="latin-1").stdout
+        told = {(int(message), int(field)): int(base) for message, field, base in (line.split("\t") for line in said.splitlines())}
+        compared = 0
+        for path in ("profile/fields.tsv", "profile/extra.tsv"):
+            with open(path, encoding="utf-8") as file:
+                rows = [line.rstrip("\n").split("\t") for line in file if not line.startswith(("#", "message\t"))]
+            for row in rows:
+                place = (int(row[0]), int(row[2])) if row[2] else None
+                if place in told and row[-1]:
+                    self.assertEqual(CODES[row[-1]] & 0x7F, told[place], row)
+                    compared += 1
+        self.assertGreater(compared, 90)
+
+
+CODES = {"enum": 0, "sint8": 1, "uint8": 2, "sint16": 0x83, "uint16": 0x84, "sint32": 0x85, "uint32": 0x86, "string": 7, "float32": 0x88, "float64": 0x89}
+CODES.update({"uint8z": 10, "uint16z": 0x8B, "uint32z": 0x8C, "byte": 13, "sint64": 0x8E, "uint64": 0x8F, "uint64z": 0x90})
+
+
 # Of units Garmin::FIT writes some in its own way, and it has units of some fields to which Garmin's profile gives none.
 SPELLINGS = {("percent", "%"), ("C", "deg.C"), ("s", "")}
 ITS_OWN = {(7, 1), (7, 2), (7, 3)}

@@ -3,7 +3,6 @@ import datetime
 import re
 from typing import Dict, Iterable, Iterator, List, NamedTuple, Optional, Set, Tuple
 
-from ._bases import SIGNED
 from ._events import Everything, FileEnd, FileHeader
 from ._items import Packer
 from ._messages import Message
@@ -24,6 +23,7 @@ _MEASURED = {"semicircles", "semicircle", "deg", "degree", "degrees", "\u00b0"}
 _FILE_ID = (0, 49)  # file_id, file_creator
 _DISTANCE = 5
 _NO_TIME = 0xFFFFFFFF
+_SINT32 = 0x85
 
 
 class Change(NamedTuple):
@@ -41,9 +41,9 @@ class Change(NamedTuple):
 
 
 def is_place(entry: Entry) -> bool:
-    """Whether a field may have a place: a whole number of 32 bits with a sign, whatever it is called, as latitudes and longitudes are kept;
-    or one that is named or measured as a place."""
-    is_signed = entry.kind == SIGNED and entry.width == 4
+    """Whether a field may have a place: a whole number of 32 bits with a sign, whatever it is called, as latitudes and longitudes are kept,
+    also by the code that some devices write for it, without its highest bit; or one that is named or measured as a place."""
+    is_signed = entry.base & 0x1F == _SINT32 & 0x1F
     return is_signed or bool(entry.name and _NAMED.search(entry.name)) or (entry.unit or "").lower() in _MEASURED
 
 

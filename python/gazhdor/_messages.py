@@ -2,10 +2,10 @@
 import datetime
 import html
 import struct
-from typing import Any, Dict, Iterator, Mapping, NamedTuple, Optional, Tuple, Union, ValuesView, overload
+from typing import Any, Callable, Dict, Iterator, Mapping, NamedTuple, Optional, Tuple, Union, ValuesView, overload
 
 from ._blocks import Run
-from ._items import packers
+from ._items import Packer, packers
 from ._profile import UnknownName, fields_of
 from ._times import Time, when
 from ._values import Definition, Entry, Exact, Key, Number, Raw, Value, degrees, label, read_exact, read_raw
@@ -41,6 +41,7 @@ class Field:
     name       its name in the profile, or that which the file gives to a developer field; None where there is none
     number     its number
     developer  of a developer field its developer data index, else None
+    base       the code of its base type, of a developer field by its description
     unit       its unit, as 'm/s', or None
     value      a whole number as an int; a scaled number, in its unit, and float32 and float64 as a float; several numbers as a tuple of
                these; a text as a str, up to its first zero; bytes as bytes. None stands for a number that is the invalid one of its
@@ -67,6 +68,10 @@ class Field:
     @property
     def developer(self) -> Optional[int]:
         return self._entry.index
+
+    @property
+    def base(self) -> int:
+        return self._entry.base
 
     @property
     def unit(self) -> Optional[str]:
@@ -191,6 +196,17 @@ class Message(Mapping[Key, Any]):
             block[pack.begins : pack.begins + pack.size] = pack(value)
             if pack.entry.key == 253 and pack.entry.type:
                 _tell_time(block, pack.begins)
+        return Message(bytes(block), self._definition)
+
+    def emptied(self, wanted: "Callable[[Field], bool]") -> "Message":
+        """Returns the message with no value in each field for which `wanted` says so, which it is asked of every field."""
+        block = bytearray(self._block)
+        for entry in self._definition.entries:
+            if wanted(Field(self._block, entry)):
+                pack = Packer(entry)
+                block[pack.begins : pack.begins + pack.size] = pack.none
+                if entry.key == 253 and entry.type:
+                    _tell_time(block, pack.begins)
         return Message(bytes(block), self._definition)
 
     def native(self, key: Key) -> Value:

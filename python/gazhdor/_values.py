@@ -29,11 +29,12 @@ NOT_NAMED = Named()
 
 class Entry:
     """What a definition says of a field: its name and unit, its number, and where and how its items stand in a message's block.
-    `index` is the developer data index of a developer field, else None; `native` the number of the field that it stands for, or None;
+    `base` is the code of its base type, `index` the developer data index of a developer field, else None; `native` the number of the field that it stands for, or None;
     `type` is 'date_time' or 'local_date_time' of a number that is such a time. What `named` says goes before what the block says."""
 
     size: int
     number: int
+    base: int
     kind: int
     width: int
     count: int
@@ -44,13 +45,13 @@ class Entry:
     invalid: int
 
     __slots__ = (
-        "size", "name", "unit", "number", "index", "kind", "width", "count", "decimals", "begins", "scale", "offset", "invalid", "read",
+        "size", "name", "unit", "number", "index", "base", "kind", "width", "count", "decimals", "begins", "scale", "offset", "invalid", "read",
         "type", "native", "_told",
     )  # fmt: skip
 
     def __init__(self, data: bytes, at: int, named: Named = NOT_NAMED, native: Optional[int] = None) -> None:
         told = _ENTRY.unpack_from(data, at)
-        self.size, unit_at, self.number, developer, index, _, self.kind, self.width, self.count = told[:9]
+        self.size, unit_at, self.number, developer, index, self.base, self.kind, self.width, self.count = told[:9]
         self.decimals, self.begins, self.scale, self.offset, self.invalid = told[9:]
         self.name, self.unit = text_at(data, at + 32), text_at(data, at + unit_at)
         self.index: Optional[int] = index if developer else None
