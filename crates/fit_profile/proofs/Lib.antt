@@ -1,4 +1,5 @@
 pub mod Common
+mod PassedMessages
 mod CounterBytes
 mod FieldPlaces
 pub mod FirstField

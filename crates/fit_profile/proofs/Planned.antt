@@ -126,6 +126,7 @@ with_lone plan d lone k is = record {
   within = k.within;
   time = k.time;
   counters = k.counters;
+  silent = k.silent;
 }
 
 -- the plan in its place, which now knows it

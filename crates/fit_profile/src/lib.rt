@@ -3,6 +3,7 @@
 #![tactic(auto)]
 
 mod by_bytes;
+mod by_header;
 mod by_plan;
 mod component;
 mod counter_places;

@@ -156,8 +156,7 @@ pub(crate) fn add_bytes(env: &Env, records: &mut History<Record>, bytes: &[u8])
     ensures { (v : Values Global) → IsRecord env.now (Data v) bytes.now
         → records.new.items ≡ records.old.items ++ Data v ∷ [] }
 {
-    let message = message_of(env, bytes);
-    add_message(records, &message);
+    records.add_from(&(env, bytes));
 }
 
 /// Changes the last ones to those after a message, and says what is told of it. Most have no counters.

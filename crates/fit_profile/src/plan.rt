@@ -1,5 +1,5 @@
 //! What is found out once of a definition, so that a stream takes in its data messages quickly, as records or by their bytes.
-ghost use Rattle.std.specs.Prelude.{◌≡◌, ◌==◌, ◌&&◌, ◌≤◌, ◌<◌, ◌+◌, ℕ, List, Option, IfSome, IsOk, OnOk, length, max, None, option_copied, slice_index_or, slice_set, Some, not};
+ghost use Rattle.std.specs.Prelude.{◌≡◌, ◌==◌, ◌&&◌, ◌≤◌, ◌<◌, ◌+◌, ℕ, List, Option, IfSome, IsOk, OnOk, length, max, None, option_copied, slice_index_or, slice_set, Some, not, true};
 ghost use Rattle.std.specs.List.{list_any};
 ghost use Rattle.fit_base.specs.BaseTypes.{base_type};
 ghost use Rattle.fit_base.specs.declared.number.Order.{Order};
@@ -11,7 +11,7 @@ ghost use Rattle.fit_profile.specs.Taken.{has_lone_fields};
 ghost use Rattle.fit_profile.specs.inner.InBytes.{slots};
 ghost use Rattle.fit_profile.specs.inner.Places.{AreFieldPlaces};
 ghost use Rattle.fit_profile.specs.inner.Plans as plans;
-ghost use Rattle.fit_profile.specs.inner.Plans.{ArePlanned, HasRoomFor, IsPlan};
+ghost use Rattle.fit_profile.specs.inner.Plans.{ArePlanned, HasRoomFor, IsPlan, IsSilent};
 ghost use Rattle.std.specs.Global.{Global};
 
 use crate::counter_places::{CounterPlaces, may_count_by};
@@ -20,6 +20,7 @@ use crate::time::valid_time;
 use fit_base::base_type::UINT32;
 use fit_base::{Code, Order, bits_at};
 use fit_names::field_number::TIMESTAMP;
+use fit_names::message_number::RECORD;
 use fit_record::{Defined, FIELD_DESCRIPTION, FieldDef, MessageDef, Record};
 use std::alloc::{AllocError, Global};
 
@@ -30,6 +31,8 @@ pub(crate) struct Plan {
     pub tells_more: bool,
     /// They are field descriptions.
     pub describes: bool,
+    /// They tell nothing where their header has no time offset.
+    pub is_silent: bool,
     /// Each of their fields is one number. None where nothing has asked for it.
     pub has_lone_fields: Option<bool>,
     /// Where the four bytes of their timestamp begin in those of their fields.
@@ -73,6 +76,20 @@ fn tells_more(definition: &MessageDef, may_count: bool) -> bool
     definition.global == FIELD_DESCRIPTION || may_count
 }
 
+/// Whether messages of this definition tell nothing where their header has no time offset. Record messages never count as such.
+fn is_silent(definition: &MessageDef, places: &[u8; 256]) -> bool
+    requires { AreFieldPlaces places.now definition.now.fields }
+    ensures { result ≡ true → IsSilent definition.now }
+{
+    if definition.global == RECORD {
+        return false;
+    }
+    if definition.global == FIELD_DESCRIPTION {
+        return false;
+    }
+    places[TIMESTAMP as usize] == 0
+}
+
 /// Whether a field is one number, which is as long as its base type is wide.
 fn is_lone(field: &FieldDef) -> bool
     ensures { result ≡ ((base_type field.now.code).width == field.now.size) }
@@ -100,6 +117,7 @@ impl Plan {
         Plan {
             tells_more: tells_more(definition, may_count),
             describes: definition.global == FIELD_DESCRIPTION,
+            is_silent: is_silent(definition, &places),
             has_lone_fields: None,
             time_place: time_place(fields, &places),
             counters: CounterPlaces::of(definition, may_count),

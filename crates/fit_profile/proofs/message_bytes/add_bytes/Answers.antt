@@ -1,6 +1,10 @@
 use Rattle.fit_profile.proofs.Common.{◌∙◌, ◌++◌, ◌∷◌, [], ap}
-use Rattle.fit_record.specs.declared.message.Record.TheVariants.{Values as Data}
+use Rattle.fit_base.proofs.ByteLists.{slice_is_bytes}
+use Rattle.fit_profile.proofs.PassedMessages.{message_is_read}
 use Rattle.fit_profile.proofs.message_bytes.add_bytes.Goals as goal
 
 pub returns : goal.returns
-returns c v is = c.add_message.ensures ∙ ap (λ w. c.args.records.now.items ++ Data w ∷ []) (c.message_of-message.ensures.read v is)
+returns c v is =
+    c.add_from.ensures
+    ∙ ap (λ r. c.args.records.now.items ++ r ∷ [])
+    (message_is_read c.args.env.now c.args.bytes.now v (slice_is_bytes c.args.bytes.now c.type_inv.bytes) is)

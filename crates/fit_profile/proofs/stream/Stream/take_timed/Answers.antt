@@ -1,0 +1,27 @@
+use Rattle.fit_profile.proofs.Common.{◌∙◌, refl, sym, ap, ap₂}
+use Rattle.fit_record.specs.declared.message.Record.TheVariants.{Values as Data}
+use Rattle.fit_profile.specs.Times.{time, time_of}
+use Rattle.fit_profile.proofs.Kept.{kept-record, keeps-last, not-first}
+use Rattle.fit_profile.proofs.PassedMessages.{timed_last, timed_nothing}
+use Rattle.fit_profile.proofs.stream.Stream.take_timed.Goals as goal
+
+pub add_bytes-requires : goal.add_bytes-requires
+add_bytes-requires c =
+    (c.requires.record_.0, kept-record c.args.self.now (Data c.requires.record_.0) c.args.bytes.now c.self.invariant.0 c.self.view_is c.requires.record_.1)
+
+pub invariant_of-self : goal.invariant_of-self
+invariant_of-self c =
+    let s = c.self.inside in
+    let now = c.args.self.now in
+    let v = c.requires.record_.0 in
+    let read = c.requires.record_.1 in
+    let is = kept-record now (Data v) c.args.bytes.now c.self.invariant.0 c.self.view_is read in
+    let alone = c.tells_times.ensures c.if-not-tells_times.false s.env v c.self.invariant.1 is in
+    let nothing = timed_nothing s.env v _ refl alone in
+    let own = c.requires.time v read
+    ∙ sym (ap₂ (λ e l. time_of e l.time (Data v)) c.self.invariant.0.env_is c.self.invariant.0.last_is ∙ ap (λ xs. time xs (Data v)) c.self.view_is) in (
+      keeps-last s.env s.last c.with_time-self-inside.result s.names s.pushed.items c.add_bytes.new.records.items now v c.self.invariant.0 c.self.view_is
+          read.0 nothing (c.with_time-self-inside.ensures ∙ timed_last s.env s.last v _ c.args.time refl alone own) (c.add_bytes.ensures v is),
+      c.self.invariant.1,
+      not-first s.is_new s.pushed.items c.add_bytes.new.records.items now s.env (Data v) c.self.invariant.2 c.self.view_is read.0 nothing,
+    )

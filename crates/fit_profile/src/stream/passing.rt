@@ -1,0 +1,60 @@
+//! Data messages that a stream takes in by their bytes, without a look at their fields.
+ghost use Rattle.std.specs.Prelude.{◌≡◌, ◌≢◌, ◌∷◌, false, IsOk, IsSomeAnd, IsTrue, OnErr, OnOk, Some};
+ghost use Rattle.std.specs.declared.alloc.Global.{Global};
+ghost use Rattle.fit_record.specs.Environment.{defined_at};
+ghost use Rattle.fit_record.specs.Records.{IsRecord};
+ghost use Rattle.fit_record.specs.declared.environment.Defined.{Defined};
+ghost use Rattle.fit_record.specs.declared.message.Values.{Values};
+ghost use Rattle.fit_record.specs.declared.message.Record.TheVariants.{Values as Data};
+ghost use Rattle.fit_profile.specs.Accumulated.{tells_more};
+ghost use Rattle.fit_profile.specs.Looks.{known};
+ghost use Rattle.fit_profile.specs.Times as times;
+
+use super::Stream;
+use crate::by_header::{is_silent, tells_times};
+use crate::message_bytes::add_bytes;
+use crate::told::with_time;
+use std::alloc::AllocError;
+
+impl Stream {
+    /// Takes the next record in, as `take_message` does, where it is a data message that tells nothing, and no record message. Says
+    /// whether it is; else it is left.
+    #[inline(always)]
+    pub fn pass_message(&mut self, bytes: &[u8]) -> bool
+        requires { (v : Values Global) × IsRecord (known self.old) (Data v) bytes.now }
+        ensures passed { IsTrue result → (v : Values Global)
+            → IsRecord (known self.old) (Data v) bytes.now → self.new ≡ Data v ∷ self.old }
+        ensures other { IsTrue result → (v : Values Global)
+            → IsRecord (known self.old) (Data v) bytes.now
+            → IsSomeAnd (defined_at (known self.old) v.local) (λ p. p.definition.global ≢ 20) }
+        ensures kept { result ≡ false → self.new ≡ self.old }
+    {
+        if !is_silent(&self.plans, bytes) {
+            return false;
+        }
+        add_bytes(&self.env, &mut self.pushed, bytes);
+        true
+    }
+
+    /// Takes the next record in, as `take_message` does, where it is the data message that these bytes are and has this time.
+    #[inline(always)]
+    pub fn take_timed(&mut self, bytes: &[u8], time: Option<u32>) -> Result<(), AllocError>
+        requires record_ { (v : Values Global) × IsRecord (known self.old) (Data v) bytes.now }
+        requires time { (v : Values Global) → IsRecord (known self.old) (Data v) bytes.now
+            → time ≡ times.time self.old (Data v) }
+        ensures ok { OnOk result ((v : Values Global)
+            → IsRecord (known self.old) (Data v) bytes.now → self.new ≡ Data v ∷ self.old) }
+        ensures err { OnErr result (self.new ≡ self.old) }
+        ensures free { (v : Values Global) (p : Defined Global)
+            → IsRecord (known self.old) (Data v) bytes.now
+            → defined_at (known self.old) v.local ≡ Some p → tells_more p.definition ≡ false
+            → IsOk result }
+    {
+        if !tells_times(&self.plans, bytes) {
+            return self.take_message(bytes);
+        }
+        self.last = with_time(self.last, time);
+        add_bytes(&self.env, &mut self.pushed, bytes);
+        Ok(())
+    }
+}
