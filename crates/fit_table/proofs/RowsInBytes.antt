@@ -2,7 +2,7 @@
 use Rattle.fit_table.proofs.Common.{◌≡◌, ◌∙◌, ◌∷◌, [], length, Bool, false, sym, ap, arith, eq-eqb, ne_eqb, option_and_then, Global, Items, Defined, FieldDef}
 use Rattle.fit_table.proofs.Common.{Record, Data, Values, defined_at, known, first_field, layout, dev_layout, Row, AreInBytes, ArePlaces, TellsAmounts, slots}
 use Rattle.fit_table.proofs.Common.{table_message_rows}
-use Rattle.fit_table.proofs.Common.{table_row}
+use Rattle.fit_table.proofs.Common.{IsSomeAnd, table_row}
 use Rattle.std.proofs.Common.{◌%◌, ◌^◌, ◌≤◌, ◌==◌, ℕ, List, Option, Some, None, if◌then◌else◌}
 use Rattle.std.proofs.lemmas.List.Sums.{sum_by-append}
 use Rattle.std.specs.Prelude.{option_map, unwrap_or}
@@ -80,3 +80,9 @@ pub row_of_other : (file : ℕ) (before : List (Record Global)) (v : Values Glob
     → (p.definition.global ≡ 20 → ⊥) → table_message_rows file before v ≡ []
 row_of_other file before v p defined other =
     by_definition file before v p defined ∙ ap (row_by file before v p) (ne_eqb p.definition.global 20 other)
+
+
+pub rows_of_other : (file : ℕ) (before : List (Record Global)) (v : Values Global) (o : Option (Defined Global)) → defined_at (known before) v.local ≡ o
+    → IsSomeAnd o (λ p. p.definition.global ≡ 20 → ⊥) → table_message_rows file before v ≡ []
+rows_of_other file before v None here other = absurd other
+rows_of_other file before v (Some p) here other = row_of_other file before v p here other

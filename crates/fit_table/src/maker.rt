@@ -7,6 +7,7 @@ ghost use Rattle.fit_record.specs.Sound.{IsSound};
 ghost use Rattle.fit_record.specs.declared.definition.FieldDef.{FieldDef};
 ghost use Rattle.fit_record.specs.declared.message.Record.TheVariants.{Values as Data};
 ghost use Rattle.fit_profile.specs.Looks.{known};
+ghost use Rattle.fit_profile.specs.Times as times;
 ghost use Rattle.fit_profile.specs.declared.told.Told.{Told};
 ghost use Rattle.fit_cells.specs.Rows.{HasRows};
 ghost use Rattle.fit_table.specs.Table as table;
@@ -21,6 +22,13 @@ use fit_profile::Stream;
 use fit_record::{FieldDef, MessageBytes};
 use fit_texts::{ByLocal, keep_at, note};
 use std::alloc::{AllocError, Global};
+
+/// The file of a record message, and its time.
+#[derive(Clone, Copy)]
+pub(crate) struct Moment {
+    pub file: u64,
+    pub time: Option<u32>,
+}
 
 /// What the rows of the table are put with, one after another.
 #[derive(Drop)]
@@ -40,16 +48,15 @@ fn put_placed(
     places: &Places,
     amounts: Option<&Amounts>,
     message: &MessageBytes<'_>,
-    time: Option<u32>,
-    file: u64,
+    moment: Moment,
 ) -> Result<(), AllocError>
     requires places { ArePlaces message.now.defined.now.definition.fields places.now }
     requires global { message.now.defined.now.definition.global ≡ 20 }
     requires long { length message.now.body.now ≡ message_size message.now.defined.now }
     requires some { (t : Told) × TellsAmounts (option_map (λ a. a.now) amounts) t }
-    ensures { OnOk result ((t : Told) → time ≡ t.time
+    ensures { OnOk result ((t : Told) → moment.time ≡ t.time
         → TellsAmounts (option_map (λ a. a.now) amounts.entry) t
-        → HasRows (table.table_row file message.now.defined.now.definition
+        → HasRows (table.table_row moment.file message.now.defined.now.definition
         (message_in message.now) t ∷ []) text.old text.new) }
 {
     let numbers = NumbersInBytes {
@@ -58,7 +65,7 @@ fn put_placed(
         bytes: message.body,
         amounts,
     };
-    put_row(text, rows, file, time, &numbers)
+    put_row(text, rows, moment.file, moment.time, &numbers)
 }
 
 /// Puts the row of a record message that may have a distance to accumulate, by what it tells after the records of a stream.
@@ -70,7 +77,7 @@ fn put_counted(
     stream: &Stream,
     message: &MessageBytes<'_>,
     bytes: &[u8],
-    file: u64,
+    moment: Moment,
 ) -> Result<(), AllocError>
     requires places { ArePlaces message.now.defined.now.definition.fields places.now }
     requires global { message.now.defined.now.definition.global ≡ 20 }
@@ -78,12 +85,12 @@ fn put_counted(
     requires defined { defined_at (known stream.now) message.now.local
         ≡ Some message.now.defined.now }
     requires record_ { IsRecord (known stream.now) (Data (message_in message.now)) bytes.now }
-    ensures { OnOk result (HasRows
-        (table.table_message_rows file stream.now (message_in message.now)) text.old text.new) }
+    requires time { moment.time ≡ times.time stream.now (Data (message_in message.now)) }
+    ensures { OnOk result (HasRows (table.table_message_rows moment.file stream.now
+        (message_in message.now)) text.old text.new) }
 {
     let amounts = Amounts::of(stream, bytes);
-    let time = stream.message_time(bytes);
-    put_placed(text, rows, places, Some(&amounts), message, time, file)
+    put_placed(text, rows, places, Some(&amounts), message, moment)
 }
 
 /// Puts the row of a record message of a file from its bytes after the records of a stream, by its columns.
@@ -94,7 +101,7 @@ fn put_by(
     stream: &Stream,
     message: &MessageBytes<'_>,
     bytes: &[u8],
-    file: u64,
+    moment: Moment,
 ) -> Result<(), AllocError>
     requires fields { message.now.defined.now.definition.fields ≡ columns.now }
     requires global { message.now.defined.now.definition.global ≡ 20 }
@@ -102,15 +109,15 @@ fn put_by(
     requires defined { defined_at (known stream.now) message.now.local
         ≡ Some message.now.defined.now }
     requires record_ { IsRecord (known stream.now) (Data (message_in message.now)) bytes.now }
-    ensures { OnOk result (HasRows
-        (table.table_message_rows file stream.now (message_in message.now)) text.old text.new) }
+    requires time { moment.time ≡ times.time stream.now (Data (message_in message.now)) }
+    ensures { OnOk result (HasRows (table.table_message_rows moment.file stream.now
+        (message_in message.now)) text.old text.new) }
 {
     let places = columns.places();
     if places.counts {
-        return put_counted(text, rows, places, stream, message, bytes, file);
+        return put_counted(text, rows, places, stream, message, bytes, moment);
     }
-    let time = stream.message_time(bytes);
-    put_placed(text, rows, places, None, message, time, file)
+    put_placed(text, rows, places, None, message, moment)
 }
 
 /// Makes what is kept the columns of record messages with these fields.
@@ -179,7 +186,7 @@ fn put_by_new(
     stream: &Stream,
     message: &MessageBytes<'_>,
     bytes: &[u8],
-    file: u64,
+    moment: Moment,
 ) -> Result<(), AllocError>
     requires global { message.now.defined.now.definition.global ≡ 20 }
     requires sound { IsSound message.now.defined.now }
@@ -187,10 +194,11 @@ fn put_by_new(
     requires defined { defined_at (known stream.now) message.now.local
         ≡ Some message.now.defined.now }
     requires record_ { IsRecord (known stream.now) (Data (message_in message.now)) bytes.now }
+    requires time { moment.time ≡ times.time stream.now (Data (message_in message.now)) }
     requires current { IsCurrent maker.old.columns message.now.local
         message.now.defined.now.definition.fields }
-    ensures row { OnOk result (HasRows
-        (table.table_message_rows file stream.now (message_in message.now)) text.old text.new) }
+    ensures row { OnOk result (HasRows (table.table_message_rows moment.file stream.now
+        (message_in message.now)) text.old text.new) }
     ensures current { Renews maker.old.columns maker.new.columns message.now.local
         message.now.defined.now.definition.fields }
 {
@@ -199,7 +207,15 @@ fn put_by_new(
     let Some(columns) = maker.columns.get(message.local) else {
         unreachable!()
     };
-    put_by(text, &mut maker.rows, columns, stream, message, bytes, file)
+    put_by(
+        text,
+        &mut maker.rows,
+        columns,
+        stream,
+        message,
+        bytes,
+        moment,
+    )
 }
 
 /// The columns that are kept for a local message type, where they are those of these fields.
@@ -229,7 +245,7 @@ pub(crate) fn put_message_row(
     stream: &Stream,
     message: &MessageBytes<'_>,
     bytes: &[u8],
-    file: u64,
+    moment: Moment,
 ) -> Result<(), AllocError>
     requires global { message.now.defined.now.definition.global ≡ 20 }
     requires sound { IsSound message.now.defined.now }
@@ -237,10 +253,11 @@ pub(crate) fn put_message_row(
     requires defined { defined_at (known stream.now) message.now.local
         ≡ Some message.now.defined.now }
     requires record_ { IsRecord (known stream.now) (Data (message_in message.now)) bytes.now }
+    requires time { moment.time ≡ times.time stream.now (Data (message_in message.now)) }
     requires current { IsCurrent maker.old.columns message.now.local
         message.now.defined.now.definition.fields }
-    ensures row { OnOk result (HasRows
-        (table.table_message_rows file stream.now (message_in message.now)) text.old text.new) }
+    ensures row { OnOk result (HasRows (table.table_message_rows moment.file stream.now
+        (message_in message.now)) text.old text.new) }
     ensures current { Renews maker.old.columns maker.new.columns message.now.local
         message.now.defined.now.definition.fields }
 {
@@ -250,8 +267,16 @@ pub(crate) fn put_message_row(
     match kept_columns(maker.columns.items.as_slice(), local, is_current, fields) {
         Some(columns) => {
             note(&mut maker.columns.current, local, true);
-            put_by(text, &mut maker.rows, columns, stream, message, bytes, file)
+            put_by(
+                text,
+                &mut maker.rows,
+                columns,
+                stream,
+                message,
+                bytes,
+                moment,
+            )
         }
-        None => put_by_new(text, maker, stream, message, bytes, file),
+        None => put_by_new(text, maker, stream, message, bytes, moment),
     }
 }

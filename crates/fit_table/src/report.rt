@@ -5,12 +5,13 @@ ghost use Rattle.fit_record.specs.declared.message.Record.TheVariants.{Values as
 ghost use Rattle.fit_record.specs.declared.message.Values.{Values};
 ghost use Rattle.fit_record.specs.Records.{IsRecord};
 ghost use Rattle.fit_profile.specs.Looks.{known};
+ghost use Rattle.fit_profile.specs.Times as times;
 ghost use Rattle.fit_cells.specs.Rows.{csv_text};
 ghost use Rattle.fit_texts.specs.Current.{AreCurrent};
 ghost use Rattle.fit_table.specs.inner.TableColumns.{column_fields};
 ghost use Rattle.fit_table.specs.Table.{table_message_rows};
 
-use crate::maker::{TableMaker, put_message_row};
+use crate::maker::{Moment, TableMaker, put_message_row};
 use crate::rows::TableRowMaker;
 use fit_frame::Header;
 use fit_profile::Stream;
@@ -23,20 +24,22 @@ use std::alloc::{AllocError, Global};
 pub const TABLE_LINE: &[u8] =
     b"file,timestamp,position_lat,position_long,altitude,distance,speed,heart_rate,cadence,power,temperature\n";
 
-/// Puts the text of the row of the data message that the bytes are after the records of a stream in the file of this number.
+/// Puts the text of the row of the data message that the bytes are after the records of a stream of this file and time.
 #[tactic(auto, using(fit_cells::proofs::AddedRows::text_none))]
 fn put_message(
     text: &mut Vec<u8>,
     maker: &mut TableMaker,
     stream: &Stream,
-    file: u64,
+    moment: Moment,
     bytes: &[u8],
 ) -> Result<(), AllocError>
     requires record_ { (v : Values Global) × IsRecord (known stream.now) (Data v) bytes.now }
+    requires time { (v : Values Global) → IsRecord (known stream.now) (Data v) bytes.now
+        → moment.time ≡ times.time stream.now (Data v) }
     requires current { AreCurrent column_fields maker.old.columns stream.now }
     ensures row { OnOk result ((v : Values Global)
         → IsRecord (known stream.now) (Data v) bytes.now → text.new.items
-        ≡ text.old.items ++ csv_text (table_message_rows file stream.now v)) }
+        ≡ text.old.items ++ csv_text (table_message_rows moment.file stream.now v)) }
     ensures current { AreCurrent column_fields maker.new.columns stream.now }
 {
     let Some(message) = stream.env().message_bytes(bytes) else {
@@ -45,7 +48,7 @@ fn put_message(
     if message.defined.definition.global != RECORD {
         return Ok(());
     }
-    put_message_row(text, maker, stream, &message, bytes, file)
+    put_message_row(text, maker, stream, &message, bytes, moment)
 }
 
 impl TextMaker for TableMaker {
@@ -102,8 +105,13 @@ impl TextMaker for TableMaker {
         files: u64,
         bytes: &[u8],
     ) -> Result<(), AllocError> {
-        put_message(text, self, stream, files, bytes)?;
-        stream.take_message(bytes)
+        if stream.pass_message(bytes) {
+            return Ok(());
+        }
+        let time = stream.message_time(bytes);
+        let moment = Moment { file: files, time };
+        put_message(text, self, stream, moment, bytes)?;
+        stream.take_timed(bytes, time)
     }
 }
 

@@ -22,6 +22,6 @@ returns c =
     let are = subst (λ fields. ArePlaces fields places) (sym c.requires.fields) c.places-places.ensures in
     on_ok_weaker c.put_placed.result (λ put.
     subst (λ rows. HasRows rows c.args.text.now c.put_placed.new.text)
-    (sym (row_of_record c.args.file before v m.defined.now c.requires.defined c.requires.global))
-    (put (told before v) (c.message_time-time.ensures v c.requires.record_)
+    (sym (row_of_record c.args.moment.file before v m.defined.now c.requires.defined c.requires.global))
+    (put (told before v) c.requires.time
     (tells_nothing before m places c.requires.defined c.requires.global are c.if-places.false))) c.put_placed.ensures

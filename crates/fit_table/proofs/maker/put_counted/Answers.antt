@@ -16,5 +16,5 @@ returns c =
     let v = message_in m in
     on_ok_weaker c.put_placed.result (λ put.
     subst (λ rows. HasRows rows c.args.text.now c.put_placed.new.text)
-    (sym (row_of_record c.args.file before v m.defined.now c.requires.defined c.requires.global))
-    (put (told before v) (c.message_time-time.ensures v c.requires.record_) (c.of-amounts.ensures v c.requires.record_))) c.put_placed.ensures
+    (sym (row_of_record c.args.moment.file before v m.defined.now c.requires.defined c.requires.global))
+    (put (told before v) c.requires.time (c.of-amounts.ensures v c.requires.record_))) c.put_placed.ensures

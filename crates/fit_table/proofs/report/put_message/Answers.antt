@@ -23,8 +23,8 @@ returns-then-message-ne-RECORD-clause-row c v is_record =
     let text = c.args.text.now.items in
     let found = c.in-Some.ensures.found v bytes [] (sym (append-nil bytes)) (subst (λ e. IsRecord e (Data v) bytes) (sym c.env.ensures) is_record) in
     let defined = subst (λ e. defined_at e m.local ≡ Some m.defined.now) c.env.ensures c.in-Some.ensures.defined in
-    let none = row_of_other c.args.file before (message_in m) m.defined.now defined c.if-message-ne-RECORD.true in
-    sym (ap (λ w. text ++ csv_text (table_message_rows c.args.file before w)) (sym found.0) ∙ ap (λ rows. text ++ csv_text rows) none ∙ append-nil text)
+    let none = row_of_other c.args.moment.file before (message_in m) m.defined.now defined c.if-message-ne-RECORD.true in
+    sym (ap (λ w. text ++ csv_text (table_message_rows c.args.moment.file before w)) (sym found.0) ∙ ap (λ rows. text ++ csv_text rows) none ∙ append-nil text)
 
 pub put_message_row-requires-clause-record_ : goal.put_message_row-requires-clause-record_
 put_message_row-requires-clause-record_ c =
@@ -34,6 +34,9 @@ put_message_row-requires-clause-record_ c =
     (subst (λ e. IsRecord e (Data v) bytes) (sym c.env.ensures) c.requires.record_.1) in
     subst (λ w. IsRecord (known c.args.stream.now) (Data w) bytes) (sym found.0) c.requires.record_.1
 
+pub put_message_row-requires-clause-time : goal.put_message_row-requires-clause-time
+put_message_row-requires-clause-time c = c.requires.time (message_in c.in-Some.message) (put_message_row-requires-clause-record_ c)
+
 pub returns-clause-row : goal.returns-clause-row
 returns-clause-row c =
     let bytes = c.args.bytes.now in
@@ -41,9 +44,9 @@ returns-clause-row c =
     let m = c.in-Some.message in
     let old = c.args.text.now in
     on_ok_weaker c.put_message_row.result
-    (λ (row : HasRows (table_message_rows c.args.file before (message_in m)) old c.put_message_row.new.text). λ v is_record.
+    (λ (row : HasRows (table_message_rows c.args.moment.file before (message_in m)) old c.put_message_row.new.text). λ v is_record.
     let found = c.in-Some.ensures.found v bytes [] (sym (append-nil bytes)) (subst (λ e. IsRecord e (Data v) bytes) (sym c.env.ensures) is_record) in
-    row.text ∙ ap (λ w. old.items ++ csv_text (table_message_rows c.args.file before w)) found.0) c.put_message_row.ensures.row
+    row.text ∙ ap (λ w. old.items ++ csv_text (table_message_rows c.args.moment.file before w)) found.0) c.put_message_row.ensures.row
 
 pub put_message_row-requires-clause-current : goal.put_message_row-requires-clause-current
 put_message_row-requires-clause-current c =
