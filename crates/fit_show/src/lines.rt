@@ -134,14 +134,17 @@ fn put_values(
     template.put(text, &mut maker.sheet, &mut maker.times, time, items)
 }
 
-/// Puts the line of the data message that the bytes are after the records of a stream.
+/// Puts the line of the data message with this time that the bytes are after the records of a stream.
 pub(crate) fn put_message(
     text: &mut Vec<u8>,
     maker: &mut LineMaker,
     stream: &Stream,
     bytes: &[u8],
+    time: Option<u32>,
 ) -> Result<(), AllocError>
     requires record_ { (v : Values Global) × IsRecord (known stream.now) (Data v) bytes.now }
+    requires time { (v : Values Global) → IsRecord (known stream.now) (Data v) bytes.now
+        → time ≡ times.time stream.now (Data v) }
     requires current { AreCurrent message_key maker.old.templates stream.now }
     ensures line { OnOk result ((v : Values Global) → IsRecord (known stream.now) (Data v) bytes.now
         → text.new.items ≡ text.old.items ++ record_line stream.now (Data v)) }
@@ -150,7 +153,6 @@ pub(crate) fn put_message(
     let Some(message) = stream.env().message_bytes(bytes) else {
         unreachable!()
     };
-    let time = stream.message_time(bytes);
     let mut items = ItemBytes {
         alloc: maker.alloc,
         order: message.defined.definition.order,

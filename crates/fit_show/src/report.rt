@@ -60,8 +60,9 @@ impl TextMaker for LineMaker {
         _files: u64,
         bytes: &[u8],
     ) -> Result<(), AllocError> {
-        put_message(text, self, stream, bytes)?;
-        stream.take_message(bytes)
+        let time = stream.message_time(bytes);
+        put_message(text, self, stream, bytes, time)?;
+        stream.take_timed(bytes, time)
     }
 }
 

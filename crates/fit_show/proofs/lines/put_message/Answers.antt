@@ -22,5 +22,5 @@ returns-clause-line c = on_ok_weaker c.put_values.result (λ put v is_record.
     let found = c.in-Some.ensures.found v bytes [] (sym (append-nil bytes)) (subst (λ e. IsRecord e (Data v) bytes) (sym c.env.ensures) is_record) in
     subst (λ w. c.put_values.new.text.items ≡ c.args.text.now.items ++ record_line before (Data w)) found.0
     (put (message_in m) refl (fields_long Global order (layout p) (take (sizes (layout p)) m.body.now) ∙ length-map p.definition.fields field_slot)
-    (c.message_time-time.ensures v is_record ∙ ap (λ w. time before (Data w)) (sym found.0))
+    (c.requires.time v is_record ∙ ap (λ w. time before (Data w)) (sym found.0))
     (c.in-Some.ensures.size, sym (fields_both order (layout p) (dev_layout p) m.body.now)))) c.put_values.ensures.line
