@@ -50,6 +50,29 @@ pub fn field_form(code: u8, size: u8, info: Option<Info>) -> (Option<NumberForm>
     }
 }
 
+/// That of the intervals of a heart rate strap, of which there are more than of any other numbers: thousandths of a second in two bytes.
+const INTERVALS: NumberForm = NumberForm {
+    signed: false,
+    width: 2,
+    invalid: 0xFFFF,
+    factor: 1,
+    shift: 0,
+    decimals: 3,
+};
+
+/// Whether two forms are the same.
+#[inline(always)]
+fn is_same(a: NumberForm, b: NumberForm) -> bool
+    ensures { IsTrue result → a ≡ b }
+{
+    a.signed == b.signed
+        && a.width == b.width
+        && a.invalid == b.invalid
+        && a.factor == b.factor
+        && a.shift == b.shift
+        && a.decimals == b.decimals
+}
+
 /// Writes what stands before the number at a place of a field: a bar, but before the first one.
 #[inline(always)]
 pub(crate) fn write_bar(bytes: &mut [u8], at: usize, place: usize) -> usize
@@ -93,9 +116,9 @@ fn add_number(
 }
 
 /// Adds numbers of this form to what is written in a sheet, by their bytes, with a bar between one and the next. Returns the place
-/// after them.
-#[inline(never)]
-pub fn add_numbers(
+/// after them. Each call is a loop of its own, which knows what of the form and the order is always the same there.
+#[inline(always)]
+fn add_each(
     text: &mut Vec<u8>,
     sheet: &mut Sheet,
     at: usize,
@@ -121,4 +144,32 @@ pub fn add_numbers(
         rest = after;
     }
     Ok(end)
+}
+
+/// Adds numbers of this form to what is written in a sheet, by their bytes, with a bar between one and the next. Returns the place
+/// after them.
+#[inline(never)]
+pub fn add_numbers(
+    text: &mut Vec<u8>,
+    sheet: &mut Sheet,
+    at: usize,
+    form: NumberForm,
+    order: Order,
+    bytes: &[u8],
+) -> Result<usize, AllocError>
+    requires place { at ≤ 1024 }
+    requires small { IsSmallForm form }
+    requires whole { length bytes.now % form.width ≡ 0 }
+    ensures place { IfOk result (λ end. end ≤ 1024) }
+    ensures text { (code : ℕ) (info : Option Meaning) → IsFormOf code info form
+        → IfOk result (λ end. and_sheet text.new.items sheet.new end
+        ≡ and_sheet text.old.items sheet.old at ++ numbers_text code info form.width
+        (numbers_of order form.width (length bytes.now / form.width) bytes.now)) }
+{
+    if is_same(form, INTERVALS) {
+        if let Order::Little = order {
+            return add_each(text, sheet, at, INTERVALS, Order::Little, bytes);
+        }
+    }
+    add_each(text, sheet, at, form, order, bytes)
 }

@@ -4,7 +4,7 @@ use Rattle.fit_cells.specs.Steps.{bar}
 use Rattle.fit_record.proofs.Gathering.{one_less, left_more, some_left}
 use Rattle.fit_record.specs.ReadMessages.{numbers_of}
 use Rattle.fit_texts.proofs.SeveralNumbers.{barred_from, number_put, numbers_put}
-use Rattle.fit_texts.proofs.several.add_numbers.Goals as goal
+use Rattle.fit_texts.proofs.several.add_each.Goals as goal
 
 pub split_at-requires : goal.split_at-requires
 split_at-requires c = some_left c.args.form.width _ _ c.loop-place.rest.now

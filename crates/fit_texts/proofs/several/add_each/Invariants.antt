@@ -4,7 +4,7 @@ use Rattle.fit_profile.specs.Profile.{Meaning}
 use Rattle.fit_record.specs.ReadMessages.{numbers_of}
 use Rattle.fit_texts.proofs.SeveralNumbers.{barred_from}
 use Rattle.fit_texts.specs.Several.{numbers_text}
-use Rattle.fit_texts.proofs.several.add_numbers.Given as goal
+use Rattle.fit_texts.proofs.several.add_each.Given as goal
 
 abbrev pub invariant-loop-place : goal.invariant-loop-place
 invariant-loop-place l = record {
