@@ -3,7 +3,7 @@ use Rattle.std.specs.Prelude.{codes}
 use Rattle.fit_base.specs.Numbers.{number}
 use Rattle.fit_cells.specs.Cells.{hex_digits}
 use Rattle.fit_texts.proofs.Sheets.{more_written}
-use Rattle.fit_texts.proofs.floats.add_float.Goals as goal
+use Rattle.fit_texts.proofs.floats.add_digits.Goals as goal
 
 pub returns-clause-text : goal.returns-clause-text
 returns-clause-text c =
