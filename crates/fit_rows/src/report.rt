@@ -66,6 +66,9 @@ impl TextMaker for RowMaker {
         bytes: &[u8],
     ) -> Result<(), AllocError> {
         put_message(text, self, stream, bytes)?;
+        if stream.pass_message(bytes) {
+            return Ok(());
+        }
         stream.take_message(bytes)
     }
 }
