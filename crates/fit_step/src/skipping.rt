@@ -68,7 +68,9 @@ fn message_to_skip(sizes: &[u32; 16], bytes: &[u8]) -> usize
 }
 
 /// Learns the definition message that begins these bytes, where all of it stands there and it has no developer fields: how many
-/// bytes it has, or else 0. One that is known already takes no memory.
+/// bytes it has, or else 0. One that is known already takes no memory. It stands apart, so that its comparisons have the registers to
+/// themselves.
+#[inline(never)]
 fn skip_definition<A: Allocator + Copy>(
     alloc: A,
     env: &mut Env<A>,
