@@ -1,4 +1,5 @@
 //! The blocks of bytes that the library makes of messages, as docs/BLOCKS.md has them. Whatever bytes they have, nothing here panics.
+use std::sync::atomic::{AtomicU64, Ordering};
 use std::sync::Arc;
 
 pub(crate) const HEADER: u8 = 1;
@@ -46,11 +47,20 @@ pub(crate) struct Walk<'a> {
     left: &'a [u8],
     /// The last definition of each local message type; no bytes where there is none.
     known: [&'a [u8]; 16],
+    /// Which walk of all it is, from 1. No definition of a walk changes while one of its messages is there, so this and its address say which
+    /// definition it is, without a look at its bytes.
+    number: u64,
 }
+
+static WALKS: AtomicU64 = AtomicU64::new(1);
 
 impl<'a> Walk<'a> {
     pub(crate) fn new(blocks: &'a [u8]) -> Walk<'a> {
-        Walk { left: blocks, known: [&[]; 16] }
+        Walk { left: blocks, known: [&[]; 16], number: WALKS.fetch_add(1, Ordering::Relaxed) }
+    }
+
+    pub(crate) fn number(&self) -> u64 {
+        self.number
     }
 
     /// The next block, of any kind; none where there isn't a whole one.

@@ -82,11 +82,13 @@ impl Key<'_> {
 /// ```
 ///
 /// A number becomes the nearest whole number of the field by its scale and offset, and of two the one that is farther from 0.
-#[derive(Clone, PartialEq, Eq)]
+#[derive(Clone)]
 pub struct Draft<'a> {
     /// Its block and that of its definition, of 40 bytes at least.
     block: Vec<u8>,
     definition: &'a [u8],
+    /// The walk that the definition is of, or 0.
+    walk: u64,
     names: Option<&'a Names>,
     /// Whether a writer chooses its local message type.
     is_free: bool,
@@ -94,7 +96,13 @@ pub struct Draft<'a> {
 
 impl<'a> Draft<'a> {
     pub(crate) fn new(block: Vec<u8>, definition: &'a [u8], names: Option<&'a Names>, is_free: bool) -> Draft<'a> {
-        Draft { block, definition, names, is_free }
+        Draft { block, definition, walk: 0, names, is_free }
+    }
+
+    /// That of a copy of the block of a message.
+    pub(crate) fn of(block: Vec<u8>, message: Message<'a>) -> Draft<'a> {
+        let (definition, walk, names) = message.defined();
+        Draft { block, definition, walk, names, is_free: false }
     }
 
     /// The same with another value of a field, as for [`set`](Draft::set).
@@ -215,7 +223,8 @@ impl<'a> Draft<'a> {
     }
 
     pub(crate) fn message(&self) -> Message<'_> {
-        Message::new(&self.block, self.definition, self.names)
+        let message = Message::new(&self.block, self.definition, self.walk);
+        self.names.map_or(message, |names| message.named(names))
     }
 
     pub(crate) fn is_free(&self) -> bool {
@@ -251,6 +260,15 @@ impl<'a> From<Message<'a>> for Draft<'a> {
         message.draft()
     }
 }
+
+/// Whether both have the same bytes, the same definition and the same names.
+impl PartialEq for Draft<'_> {
+    fn eq(&self, other: &Draft<'_>) -> bool {
+        self.message() == other.message() && self.is_free == other.is_free
+    }
+}
+
+impl Eq for Draft<'_> {}
 
 impl Debug for Draft<'_> {
     fn fmt(&self, f: &mut Formatter<'_>) -> fmt::Result {

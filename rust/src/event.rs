@@ -39,7 +39,7 @@ impl<'a> Iterator for Events<'a> {
         Some(match self.walk.found()? {
             Found::Header(block) => Event::Header(Header { block: Cow::Borrowed(block) }),
             Found::Definition(block) => Event::Definition(Definition::read(block, None)),
-            Found::Message(block, definition) => Event::Message(Message::new(block, definition, None)),
+            Found::Message(block, definition) => Event::Message(Message::new(block, definition, self.walk.number())),
             Found::End => Event::End,
         })
     }

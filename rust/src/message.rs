@@ -84,7 +84,7 @@ impl<'a> Iterator for Iter<'a> {
     type Item = Message<'a>;
 
     fn next(&mut self) -> Option<Message<'a>> {
-        self.walk.next().map(|(block, definition)| Message::new(block, definition, None))
+        self.walk.next().map(|(block, definition)| Message::new(block, definition, self.walk.number()))
     }
 }
 
@@ -109,19 +109,21 @@ impl Debug for Iter<'_> {
 /// let names: Vec<_> = record.fields().filter_map(|field| field.name()).collect();
 /// assert_eq!(names[..4], ["timestamp", "position_lat", "position_long", "distance"]);
 /// ```
-#[derive(Clone, Copy, PartialEq, Eq)]
+#[derive(Clone, Copy)]
 pub struct Message<'a> {
     /// Its block and that of its definition, of 40 bytes at least.
     block: &'a [u8],
     definition: &'a [u8],
+    /// The walk that it is of, or 0.
+    walk: u64,
     /// What is said of it and of its fields beside the profile.
     names: Option<&'a Names>,
 }
 
 impl<'a> Message<'a> {
-    /// That of two blocks of 40 bytes at least.
-    pub(crate) fn new(block: &'a [u8], definition: &'a [u8], names: Option<&'a Names>) -> Message<'a> {
-        Message { block, definition, names }
+    /// That of two blocks of 40 bytes at least, of a walk.
+    pub(crate) fn new(block: &'a [u8], definition: &'a [u8], walk: u64) -> Message<'a> {
+        Message { block, definition, walk, names: None }
     }
 
     /// The same message by these names, units and scales, which go before those of the profile. They say nothing of developer fields.
@@ -228,7 +230,7 @@ impl<'a> Message<'a> {
 
     /// A copy that can be changed and written.
     pub fn draft(&self) -> Draft<'a> {
-        Draft::new(self.block.to_vec(), self.definition, self.names, false)
+        Draft::of(self.block.to_vec(), *self)
     }
 
     /// A changed copy, as [`Draft::set`] changes it: the items of all other fields stay as they are.
@@ -240,9 +242,13 @@ impl<'a> Message<'a> {
         self.draft().with(key, value)
     }
 
-    /// Its block, and that of its definition.
-    pub(crate) fn both(&self) -> (&'a [u8], &'a [u8]) {
-        (self.block, self.definition)
+    pub(crate) fn block(&self) -> &'a [u8] {
+        self.block
+    }
+
+    /// The block of its definition, the walk that it is of, or 0, and what is said beside the profile.
+    pub(crate) fn defined(&self) -> (&'a [u8], u64, Option<&'a Names>) {
+        (self.definition, self.walk, self.names)
     }
 
     fn tells(&self, bit: u8) -> bool {
@@ -253,6 +259,15 @@ impl<'a> Message<'a> {
         (self.tells(bit) && self.block.len() >= at + 8).then(|| eight(self.block, at))
     }
 }
+
+/// Whether both have the same bytes, the same definition and the same names.
+impl PartialEq for Message<'_> {
+    fn eq(&self, other: &Message<'_>) -> bool {
+        (self.block, self.definition, self.names) == (other.block, other.definition, other.names)
+    }
+}
+
+impl Eq for Message<'_> {}
 
 impl Debug for Message<'_> {
     fn fmt(&self, f: &mut Formatter<'_>) -> fmt::Result {

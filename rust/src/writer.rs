@@ -59,14 +59,24 @@ pub struct Writer<W> {
     sink: W,
     /// The blocks of the file that isn't ended yet; none where none has begun.
     blocks: Vec<u8>,
-    /// Where among them the last definition of each local message type is, and when it was last used.
-    defined: [(Range<usize>, u64); 16],
+    defined: [Defined; 16],
     /// How many blocks there are.
     count: u64,
     /// The same, and how many bytes they had, in the files that have ended.
     before: (u64, u64),
     files: Vec<Bytes>,
     fault: Option<BlocksFault>,
+}
+
+/// The last definition of a local message type.
+#[derive(Default)]
+struct Defined {
+    /// Where it is among the blocks; no bytes where there is none.
+    place: Range<usize>,
+    /// The walk and the address of the definition that was read, where it is one.
+    read: (u64, usize),
+    /// How many blocks there were when it was last used.
+    used: u64,
 }
 
 impl<W: Write> Writer<W> {
@@ -101,11 +111,12 @@ impl<W: Write> Writer<W> {
     ///
     /// [`BlocksFault::OutOfMemory`], or the fault of an earlier call.
     pub fn write(&mut self, draft: &Draft<'_>) -> Result<(), BlocksFault> {
-        let (message, definition) = draft.message().both();
-        let is_compressed = message[7] != 0xFF;
+        let message = draft.message();
+        let (definition, ..) = message.defined();
+        let is_compressed = message.time_offset().is_some();
         let most = if is_compressed { 4 } else { 16 }; // a compressed header has room for four of them
-        let local = if draft.is_free() { self.local_of(definition, most) } else { message[6] & 15 };
-        self.put(message, definition, local)
+        let local = if draft.is_free() { self.local_of(definition, most) } else { message.local() & 15 };
+        self.put(&message, local)
     }
 
     /// Writes just what was read.
@@ -128,8 +139,7 @@ impl<W: Write> Writer<W> {
     ///
     /// As for [`write`](Writer::write).
     pub fn copy_message(&mut self, message: &Message<'_>) -> Result<(), BlocksFault> {
-        let (message, definition) = message.both();
-        self.put(message, definition, message[6] & 15)
+        self.put(message, message.local() & 15)
     }
 
     /// Writes a definition, also where it is there.
@@ -228,34 +238,40 @@ impl<W: Write> Writer<W> {
         }
     }
 
-    fn put(&mut self, message: &[u8], definition: &[u8], local: u8) -> Result<(), BlocksFault> {
+    fn put(&mut self, message: &Message<'_>, local: u8) -> Result<(), BlocksFault> {
         self.open()?;
-        if !self.is_defined(definition, local) {
-            self.push_definition(definition, local)?;
+        let (definition, walk, _) = message.defined();
+        let (read, of) = ((walk, definition.as_ptr() as usize), usize::from(local));
+        // Definitions may be long, and messages short: their bytes are compared once.
+        if walk == 0 || self.defined[of].read != read {
+            if !self.is_defined(definition, local) {
+                self.push_definition(definition, local)?;
+            }
+            self.defined[of].read = read;
         }
-        let place = self.push(message)?;
+        let place = self.push(message.block())?;
         self.blocks[place + 6] = local;
-        self.defined[usize::from(local)].1 = self.count;
+        self.defined[of].used = self.count;
         Ok(())
     }
 
     fn push_definition(&mut self, definition: &[u8], local: u8) -> Result<(), BlocksFault> {
         let place = self.push(definition)?;
         self.blocks[place + 5] = local;
-        self.defined[usize::from(local)] = (place..self.blocks.len(), self.count);
+        self.defined[usize::from(local)] = Defined { place: place..self.blocks.len(), read: (0, 0), used: self.count };
         Ok(())
     }
 
     /// Whether the last definition of a local message type says the same: all but which definition it is of all that were read.
     fn is_defined(&self, definition: &[u8], local: u8) -> bool {
-        let last = &self.blocks[self.defined[usize::from(local)].0.clone()];
+        let last = &self.blocks[self.defined[usize::from(local)].place.clone()];
         last.len() == definition.len() && last[6..8] == definition[6..8] && last[32..] == definition[32..]
     }
 
     /// Of some first local message types one that has this definition, or else the one that was used longest ago.
     fn local_of(&self, definition: &[u8], most: u8) -> u8 {
         let found = (0..most).find(|&local| self.is_defined(definition, local));
-        found.or_else(|| (0..most).min_by_key(|&local| self.defined[usize::from(local)].1)).unwrap_or(0)
+        found.or_else(|| (0..most).min_by_key(|&local| self.defined[usize::from(local)].used)).unwrap_or(0)
     }
 
     /// Puts a block after the others, and returns where it begins.

@@ -59,6 +59,31 @@ fn message_by_message() {
     }
 }
 
+/// Messages of two files by turns, with the same local message types: each is of its own definition, which is there only where it changes.
+#[test]
+fn two_files_by_turns() {
+    let other = any_file(&mut Random(5));
+    let (rides, others) = (messages(RIDE).unwrap(), messages(&other).unwrap());
+    let mut out = Writer::new(Vec::new());
+    let mut wanted = Vec::new();
+    for (one, two) in rides.iter().zip(&others) {
+        for message in [one, two, two] {
+            out.copy_message(&message).unwrap();
+            let items: Vec<_> = message.fields().map(|field| field.bytes().to_vec()).collect();
+            wanted.push((message.number(), message.local(), message.time_offset(), items));
+        }
+    }
+    let file = out.finish().unwrap();
+    let read = messages(&file).unwrap();
+    let told = read.iter().map(|message| {
+        let items = message.fields().map(|field| field.bytes().to_vec()).collect();
+        (message.number(), message.local(), message.time_offset(), items)
+    });
+    assert!(wanted.len() > 60 && told.eq(wanted));
+    let defined = read.events().filter(|event| matches!(event, Event::Definition(_))).count();
+    assert!(defined < read.iter().count() * 2 / 3 + 10);
+}
+
 #[test]
 fn unchanged_drafts() {
     for file in files() {
