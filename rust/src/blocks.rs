@@ -47,8 +47,8 @@ pub(crate) struct Walk<'a> {
     left: &'a [u8],
     /// The last definition of each local message type; no bytes where there is none.
     known: [&'a [u8]; 16],
-    /// Which walk of all it is, from 1. No definition of a walk changes while one of its messages is there, so this and its address say which
-    /// definition it is, without a look at its bytes.
+    /// Which walk of all it is, from 1. No definition of a walk changes while one of its messages is there, so this and its address say
+    /// which definition it is, without a look at its bytes.
     number: u64,
 }
 

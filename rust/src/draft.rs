@@ -187,7 +187,8 @@ impl<'a> Draft<'a> {
         Ok(())
     }
 
-    /// Gives it a compressed timestamp header with this time offset, 0 to 31, or else a normal header. Its local message type has to be 0 to 3.
+    /// Gives it a compressed timestamp header with this time offset, 0 to 31, or else a normal header. Its local message type has to be 0 to
+    /// 3 then.
     ///
     /// # Errors
     ///

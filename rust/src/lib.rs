@@ -219,8 +219,8 @@ pub fn from_csv(text: impl AsRef<[u8]>) -> Result<Bytes, Fault> {
 ///
 /// # Errors
 ///
-/// A [`BlocksFault`] for the first block that can't stand where it is, where the blocks are those of files that have no bytes, and where memory
-/// is refused. There are no bytes then.
+/// A [`BlocksFault`] for the first block that can't stand where it is, where the blocks are those of files that have no bytes, and where
+/// memory is refused. There are no bytes then.
 pub fn from_blocks(blocks: &[u8]) -> Result<Bytes, BlocksFault> {
     let (answer, bytes) = library::from_messages(blocks);
     blocks_fault::found(&answer).map_or(Ok(bytes), Err)

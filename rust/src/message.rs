@@ -40,8 +40,8 @@ impl Messages {
         Events::new(self.walk())
     }
 
-    /// All that the files have as blocks of bytes (`docs/BLOCKS.md`), of which [`from_blocks`](crate::from_blocks) makes the files again. Of a
-    /// piece they are those that it completes.
+    /// All that the files have as blocks of bytes (`docs/BLOCKS.md`), of which [`from_blocks`](crate::from_blocks) makes the files again.
+    /// Of a piece they are those that it completes.
     pub fn blocks(&self) -> &[u8] {
         &self.blocks
     }

@@ -97,40 +97,41 @@ fn six_blocks() -> Vec<u8> {
     messages(&fit(&records)).unwrap().blocks().to_vec()
 }
 
-/// Of each block what docs/BLOCKS.md says of its bytes, and a byte that can't be there.
+/// A block of those six, a place in it, a byte that can't be there by docs/BLOCKS.md, and why not.
+const CHANGES: [(usize, usize, u8, BlockReason); 25] = [
+    (0, 0, 0, Cut),            // a length of 0
+    (0, 0, 0x21, Cut),         // one that isn't a multiple of 8
+    (5, 0, 0x20, Cut),         // one that goes past the end
+    (0, 4, 0, Kind),           // no kind
+    (0, 4, 4, Kind),           // an end before a header
+    (4, 4, 1, Kind),           // a header within a file
+    (0, 5, 13, Header),        // the size of a header with a checksum
+    (0, 6, 0x30, Header),      // protocol 3.0
+    (0, 7, 3, Header),         // no kind of a checksum
+    (0, 26, 1, Header),        // a profile version over 65535
+    (3, 5, 16, Local),         // a local message type
+    (4, 6, 16, Local),         // the same of a message
+    (3, 6, 2, Architecture),   // neither little nor big endian
+    (3, 34, 2, Entries),       // a field more than there are
+    (3, 36, 0, Entries),       // a developer field less
+    (3, 38, 0, Entries),       // developer fields that the record header doesn't announce
+    (3, 48, 0, Entries),       // the length of an entry
+    (3, 48 + 5, 1, Entries),   // a developer field before a field
+    (3, 48 + 9, 4, Size),      // an item of four bytes, of a number of two
+    (3, 48 + 10, 128, Size),   // 128 items of two bytes
+    (3, 48 + 7, 0x86, Size),   // a number of four bytes, of two
+    (4, 7, 32, Offset),        // a time offset above 31
+    (4, 6, 1, Undefined),      // a local message type without a definition
+    (3, 48 + 12, 56, Items),   // items that begin where the message ends
+    (3, 48 + 15, 0xFF, Items), // and far away
+];
+
 #[test]
 fn each_reason() {
     let whole = six_blocks();
     let ends = ends_of(&whole);
     assert_eq!((ends.len(), &whole[ends[3] + 40..ends[3] + 48]), (7, &b"record\0\0"[..]));
-    let changes: [(usize, usize, u8, BlockReason); 25] = [
-        (0, 0, 0, Cut),            // a length of 0
-        (0, 0, 0x21, Cut),         // one that isn't a multiple of 8
-        (5, 0, 0x20, Cut),         // one that goes past the end
-        (0, 4, 0, Kind),           // no kind
-        (0, 4, 4, Kind),           // an end before a header
-        (4, 4, 1, Kind),           // a header within a file
-        (0, 5, 13, Header),        // the size of a header with a checksum
-        (0, 6, 0x30, Header),      // protocol 3.0
-        (0, 7, 3, Header),         // no kind of a checksum
-        (0, 26, 1, Header),        // a profile version over 65535
-        (3, 5, 16, Local),         // a local message type
-        (4, 6, 16, Local),         // the same of a message
-        (3, 6, 2, Architecture),   // neither little nor big endian
-        (3, 34, 2, Entries),       // a field more than there are
-        (3, 36, 0, Entries),       // a developer field less
-        (3, 38, 0, Entries),       // developer fields that the record header doesn't announce
-        (3, 48, 0, Entries),       // the length of an entry
-        (3, 48 + 5, 1, Entries),   // a developer field before a field
-        (3, 48 + 9, 4, Size),      // an item of four bytes, of a number of two
-        (3, 48 + 10, 128, Size),   // 128 items of two bytes
-        (3, 48 + 7, 0x86, Size),   // a number of four bytes, of two
-        (4, 7, 32, Offset),        // a time offset above 31
-        (4, 6, 1, Undefined),      // a local message type without a definition
-        (3, 48 + 12, 56, Items),   // items that begin where the message ends
-        (3, 48 + 15, 0xFF, Items), // and far away
-    ];
-    for (block, at, byte, reason) in changes {
+    for (block, at, byte, reason) in CHANGES {
         let mut blocks = whole.clone();
         assert_ne!(std::mem::replace(&mut blocks[ends[block] + at], byte), byte);
         // Where items are outside, that is the fault of the message that comes after the definition.

@@ -32,25 +32,27 @@ fn by_hand() {
     assert_eq!(out.finish().unwrap(), wanted);
 }
 
-/// A field of each base type: what no value is in the file, its least and its greatest number, and those that are one too many.
+/// Each base type of whole numbers: its least and its greatest, and what no value is in the file.
+const WHOLE: [(BaseType, i128, i128, &[u8]); 13] = [
+    (Enum, 0, 254, &[0xFF]),
+    (Sint8, -128, 126, &[0x7F]),
+    (Uint8, 0, 254, &[0xFF]),
+    (Uint8z, 1, 255, &[0]),
+    (Sint16, -32768, 32766, &[0xFF, 0x7F]),
+    (Uint16, 0, 65534, &[0xFF, 0xFF]),
+    (Uint16z, 1, 65535, &[0, 0]),
+    (Sint32, -(1 << 31), (1 << 31) - 2, &[0xFF, 0xFF, 0xFF, 0x7F]),
+    (Uint32, 0, (1 << 32) - 2, &[0xFF; 4]),
+    (Uint32z, 1, (1 << 32) - 1, &[0; 4]),
+    (Sint64, -(1 << 63), (1 << 63) - 2, &[0xFF, 0xFF, 0xFF, 0xFF, 0xFF, 0xFF, 0xFF, 0x7F]),
+    (Uint64, 0, (1 << 64) - 2, &[0xFF; 8]),
+    (Uint64z, 1, (1 << 64) - 1, &[0; 8]),
+];
+
+/// A field of each, with these numbers, and with those that are one too many.
 #[test]
 fn limits_of_numbers() {
-    let whole: [(BaseType, i128, i128, &[u8]); 13] = [
-        (Enum, 0, 254, &[0xFF]),
-        (Sint8, -128, 126, &[0x7F]),
-        (Uint8, 0, 254, &[0xFF]),
-        (Uint8z, 1, 255, &[0]),
-        (Sint16, -32768, 32766, &[0xFF, 0x7F]),
-        (Uint16, 0, 65534, &[0xFF, 0xFF]),
-        (Uint16z, 1, 65535, &[0, 0]),
-        (Sint32, -(1 << 31), (1 << 31) - 2, &[0xFF, 0xFF, 0xFF, 0x7F]),
-        (Uint32, 0, (1 << 32) - 2, &[0xFF; 4]),
-        (Uint32z, 1, (1 << 32) - 1, &[0; 4]),
-        (Sint64, -(1 << 63), (1 << 63) - 2, &[0xFF, 0xFF, 0xFF, 0xFF, 0xFF, 0xFF, 0xFF, 0x7F]),
-        (Uint64, 0, (1 << 64) - 2, &[0xFF; 8]),
-        (Uint64z, 1, (1 << 64) - 1, &[0; 8]),
-    ];
-    for (base_type, least, most, none) in whole {
+    for (base_type, least, most, none) in WHOLE {
         let definition = Definition::numbered(PRIVATE).with_field(0, base_type, 1).unwrap();
         let of = |number: i128| {
             let value = u64::try_from(number).map_or_else(|_| Value::Signed(number as i64), Value::Unsigned);
