@@ -13,10 +13,11 @@ import subprocess
 import sys
 import tempfile
 import threading
+import tracemalloc
 import unittest
 
 import gazhdor
-from python_fits import SMALL
+from python_fits import SMALL, define, fit
 
 RIDE = "examples/ride.fit"
 
@@ -173,6 +174,9 @@ class Hostile(unittest.TestCase):
                     record.write(heart_rate=value)
                 self.assertLess(len(str(caught.exception)), 200)
                 self.assertIn("heart_rate", str(caught.exception))
+            for value in ({}, {1: 2}, set(), {5}, frozenset(), "5"):
+                with self.assertRaises(gazhdor.WrongValue):
+                    out.write("record", heart_rate=value)
             record.write(heart_rate=Liar(7))
         self.assertEqual([message["heart_rate"] for message in gazhdor.messages(made.getvalue())], [120, 120, 120, 120, 120, 7])
 
@@ -261,6 +265,23 @@ class Hostile(unittest.TestCase):
             self.skipTest("there is too little memory")
         done = subprocess.run([sys.executable, "-c", program], stdout=subprocess.PIPE)
         self.assertEqual(done.stdout, b"True\nTrue\n")
+
+    def test_fat_definitions(self):
+        """Definitions whose developer fields have names of 255 bytes, which a file has once, take little when they are copied."""
+        described = [(number, 255 * b"n") for number in range(8)]
+        records = [define(15, 206, [(0, 1, 2), (1, 1, 2), (2, 1, 2), (3, 255, 7), (8, 255, 7)])]
+        records += [bytes([15, 0, number, 2]) + name + 255 * b"u" for number, name in described]
+        records += [define(k % 15, 20, [(3, 1, 2)], [(n % 8, 1, 0) for n in range(255)]) for k in range(300)] + [bytes([3]) + bytes(256)]
+        data = fit(*records)
+        made = io.BytesIO()
+        tracemalloc.start()
+        with gazhdor.Writer(made) as out:
+            for event in gazhdor.messages(data, everything=True):
+                out.copy(event)
+            most = tracemalloc.get_traced_memory()[1]
+        tracemalloc.stop()
+        self.assertEqual(made.getvalue(), data)
+        self.assertLess(most, 30 * len(data) + 20 * 2**20)
 
     def test_memory(self):
         """Memory grows with the file, and not with the square of it; many definitions keep little."""

@@ -64,19 +64,25 @@ def _known_names() -> Set[str]:
     return names.union(named.name for number in EXTRA.messages.values() for named in EXTRA.fields(number).values() if named.name)
 
 
+class _Plan(NamedTuple):
+    """What is emptied in the messages of a definition, by what it is called, and which of their fields are times."""
+
+    dropped: List[Tuple[str, Packer]]
+    times: List[Packer]
+
+
 class _Editor:
     """Makes the changes of messages."""
 
     def __init__(self, change: Change) -> None:
         self._change = change
-        self._plans: Dict[int, Tuple[Definition, List[Tuple[str, Packer]], List[Packer]]] = {}
         self.counts: Dict[Tuple[str, str], int] = {}
         self._met: Set[str] = set()
 
-    def _plan(self, definition: Definition) -> Tuple[Definition, List[Tuple[str, Packer]], List[Packer]]:
-        """What is emptied in the messages of a definition, and which of their fields are times."""
-        plan = self._plans.get(id(definition))
-        if plan is None:
+    def _plan(self, definition: Definition) -> "_Plan":
+        """What is changed in the messages of a definition. It is kept with the definition, of which there may be very many."""
+        of, plan = definition.made.get("edit", (None, None))
+        if of is not self:
             dropped: List[Tuple[str, Packer]] = []
             for entry in definition.entries:
                 words = [word for word in self._change.drop if _is_of(word, definition, entry)]
@@ -85,19 +91,21 @@ class _Editor:
                     pack = Packer(entry)
                     dropped.append((pack.label, pack))
             times = [Packer(entry) for entry in definition.entries if entry.type and not entry.is_scaled]
-            plan = self._plans[id(definition)] = definition, dropped, times
-        return plan
+            plan = _Plan(dropped, times)
+            definition.made["edit"] = self, plan
+        found: _Plan = plan
+        return found
 
     def changed(self, message: Message) -> Message:
-        definition, dropped, times = self._plan(message._definition)
-        block = bytearray(message._block)
-        for label, pack in dropped:
+        definition = message._definition
+        plan, block = self._plan(definition), bytearray(message._block)
+        for label, pack in plan.dropped:
             if block[pack.begins : pack.begins + pack.size] != pack.none:
                 block[pack.begins : pack.begins + pack.size] = pack.none
                 named = definition.name or f"message_{definition.number}", label
                 self.counts[named] = self.counts.get(named, 0) + 1
         if self._change.shift:
-            self._move(block, times)
+            self._move(block, plan.times)
         return Message(bytes(block), definition)
 
     def _move(self, block: bytearray, times: List[Packer]) -> None:

@@ -250,7 +250,8 @@ def text_bytes(value: Any, field: str) -> bytes:
 def several(value: Any) -> List[Any]:
     """The items of a value: those of a list, a tuple, an array or whatever gives them one after another, or the one that it is. Of very many
     only the first are taken, which are too many."""
-    if isinstance(value, (str, bytes, bytearray, datetime.datetime)) or not hasattr(value, "__iter__") or getattr(value, "shape", None) == ():
+    is_one = isinstance(value, (str, bytes, bytearray, datetime.datetime, dict, set, frozenset))
+    if is_one or not hasattr(value, "__iter__") or getattr(value, "shape", None) == ():
         return [value]
     return list(itertools.islice(value, 256))
 

@@ -14,7 +14,8 @@ _NO_TIME = 0xFFFFFFFF
 _NO_INFO = Info("", "", 1, 0, "")
 END = struct.pack("<IBBBBIIQ", 24, 4, 0, 0, 0, 0, 0, 0)
 KINDS = ("none", "zeros", "there")
-_MOST_KNOWN = 256
+_MOST_KNOWN = 1 << 20  # So many bytes of definitions are kept.
+_USUAL = 128  # An entry with a name and a unit has fewer bytes, unless somebody wants it to have many.
 
 
 class FieldDefinition(NamedTuple):
@@ -102,13 +103,16 @@ class Layouts:
     def __init__(self, names: Optional[Names]) -> None:
         self._names = names
         self._known: Dict[bytes, Definition] = {}
+        self._room = _MOST_KNOWN
 
     def of(self, block: bytes) -> Definition:
         """The definition of a block. It may be that of another local message type or architecture."""
         known = self._known.get(block[32:])
         if known is None:
-            if len(self._known) == _MOST_KNOWN:
+            self._room -= len(block)
+            if self._room < 0:
                 self._known.clear()
+                self._room = _MOST_KNOWN - len(block)
             known = self._known[block[32:]] = Definition(block, told(self._names, int.from_bytes(block[32:34], "little"), {}))
         return known
 
@@ -129,6 +133,22 @@ def message_length(definition: Definition) -> int:
     """How long the blocks of its messages are."""
     length: int = struct.unpack_from("<I", definition.data, 12)[0]
     return length
+
+
+def slim(data: bytes) -> bytes:
+    """The block of a definition message, without names and units where these are so long that many such blocks would take much memory: no
+    file is made of them."""
+    fields, developers = struct.unpack_from("<HH", data, 34)
+    if len(data) <= 300 + _USUAL * (fields + developers):
+        return data
+    at = 40 + (data.index(0, 40) - 40) // 8 * 8 + 8
+    entries: List[bytes] = []
+    for _ in range(fields + developers):
+        length: int = struct.unpack_from("<H", data, at)[0]
+        entries.append(b"\x20\0" + data[at + 2 : at + 32])
+        at += length
+    made = data[4:40] + bytes(8) + b"".join(entries)
+    return struct.pack("<I", 4 + len(made)) + made
 
 
 def fields_of_block(data: bytes) -> Tuple[FieldDefinition, ...]:

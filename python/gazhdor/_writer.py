@@ -5,7 +5,7 @@ from ._answers import UNWRITABLE
 from ._bases import base_named
 from ._events import DefinitionMessage, Everything, FileEnd, FileHeader
 from ._header_times import is_out_of_time, with_time
-from ._layout import END, KINDS, FieldDefinition, Kept, Layouts, fields_of_block, header_block
+from ._layout import END, KINDS, FieldDefinition, Kept, Layouts, fields_of_block, header_block, slim
 from ._library import HAS_WRITER, VERSION, exact, library, text_of
 from ._messages import Message
 from ._names import Told, names_of
@@ -60,7 +60,9 @@ class Writer:
         _see_library()
         see_sink(sink)
         self._sink, self._names = sink, names_of(names)
+        # the blocks of the current file, and the bytes of those before it
         self._chunks: Optional[List[Union[bytes, bytearray]]] = []
+        self._files: List[bytes] = []
         self._layouts = Layouts(self._names)
         # whether a file is begun, and whether no call was interrupted
         self._is_open, self._is_whole = False, True
@@ -183,17 +185,15 @@ class Writer:
     def finish(self) -> None:
         """Writes the file, as the end of `with` does. After that the writer can't be used."""
         self._end()
-        chunks = self._chunks or []
+        files = self._files
         self.discard()
-        if not chunks:
+        if not files:
             raise ValueError("nothing was written, and no file is empty")
-        blocks = b"".join(chunks)
-        chunks.clear()
-        write(self._sink, from_blocks(blocks))
+        write(self._sink, files[0] if len(files) == 1 else b"".join(files))
 
     def discard(self) -> None:
         """Forgets all, and writes nothing. After that the writer can't be used."""
-        self._chunks = None
+        self._chunks, self._files = None, []
         self._forget()
 
     def __enter__(self) -> "Writer":
@@ -226,6 +226,9 @@ class Writer:
         if self._is_open:
             self._is_whole = False
             chunks.append(END)
+            blocks = b"".join(chunks)
+            chunks.clear()
+            self._files.append(from_blocks(blocks))
             self._forget()
             self._is_open, self._is_whole = False, True
 
@@ -237,7 +240,7 @@ class Writer:
         if block[36] or block[37]:
             self._see_described(fields_of_block(block))
         self._is_whole = False
-        chunks.append(block if block[5] == local else block[:5] + bytes([local]) + block[6:])
+        chunks.append(slim(block if block[5] == local else block[:5] + bytes([local]) + block[6:]))
         self._turn += 1
         self._slots[local], self._turns[local] = definition, self._turn
         self._is_whole = True
