@@ -41,7 +41,7 @@ class Packer:
     """What makes the items of a field of a value. A value is what `messages` gives: a number in the unit of the field, or None. Of a field in
     semicircles a float is degrees; a time may be a datetime, or the text 'system+N'."""
 
-    __slots__ = ("entry", "begins", "size", "none", "_least", "_most", "_pack", "scale", "shift", "_is_plain", "_is_degrees", "_is_direct", "_ratio")
+    __slots__ = ("entry", "begins", "size", "none", "_least", "_most", "_pack", "scale", "shift", "_is_plain", "_is_degrees", "_is_direct", "_by", "_from", "_ratio")
 
     def __init__(self, entry: Entry) -> None:
         self.entry, self.begins, self.size = entry, entry.begins, entry.count * entry.width
@@ -55,6 +55,7 @@ class Packer:
         self._is_plain = not entry.is_scaled
         self._is_direct = self.takes_items and entry.kind < FLOAT and entry.count == 1
         of, to = self.scale, self.shift
+        self._by, self._from = float(of), float(to)
         self._ratio = (of.numerator * to.denominator, to.numerator * of.denominator), of.denominator * to.denominator
 
     # ---- of one number
@@ -63,7 +64,7 @@ class Packer:
         """The item of a whole number field that a value stands for."""
         if value is None:
             return self.entry.invalid
-        if type(value) is not int:
+        if type(value) is not int and type(value) is not float:
             value = self._number(value)
             if value is None:
                 return self.entry.invalid
@@ -82,8 +83,8 @@ class Packer:
         """The item of a float: exact, whatever is lost on the way."""
         if not math.isfinite(value):
             raise self.wrong(value)
-        steps = value * float(self.scale)
-        item = steps + float(self.shift)
+        steps = value * self._by
+        item = steps + self._from
         if abs(steps) < SURE and abs(item) < SURE:
             near = round(item)
             if abs(item - near) < CLEAR:
@@ -183,8 +184,10 @@ class Packer:
     def __call__(self, value: Any) -> bytes:
         """All bytes of the field."""
         entry = self.entry
-        if type(value) is int and self._is_direct and self._least <= value <= self._most and value != entry.invalid:
+        if self._is_direct and type(value) is int and self._least <= value <= self._most and value != entry.invalid:
             return self._pack(value)
+        if type(value) is float and entry.kind < FLOAT and entry.count == 1:
+            return self._pack(self.item(value))
         if value is None:
             return self.none
         if entry.kind == TEXT:
