@@ -95,6 +95,15 @@ impl FieldForm {
         }
     }
 
+    /// Where the form of a lone number of at most four bytes is kept.
+    #[inline(always)]
+    pub(crate) fn lone_number(&self) -> Option<&NumberForm> {
+        match self.kind {
+            FieldKind::Lone => self.number.as_ref(),
+            _ => None,
+        }
+    }
+
     /// The form of several numbers of at most four bytes.
     #[inline(always)]
     pub(crate) fn several(&self) -> Option<NumberForm>

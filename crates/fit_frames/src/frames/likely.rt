@@ -35,14 +35,14 @@ fn put_number(bytes: &mut Vec<u8>, order: Order, width: u8, bits: u64) -> Result
     ensures { OnOk result (length bytes.new.items ≤ length bytes.old.items + width) }
 {
     let end = bytes.len().wrapping_add(width as usize);
-    let eight = match order {
-        Order::Little => bits.to_le_bytes(),
+    let word = match order {
+        Order::Little => bits,
         Order::Big => {
             let others = 64u32.wrapping_sub(8 * u32::from(width));
-            bits.wrapping_shl(others).to_be_bytes()
+            bits.wrapping_shl(others).swap_bytes()
         }
     };
-    bytes.extend_from_slice(&eight)?;
+    bytes.extend_from_slice(&word.to_le_bytes())?;
     bytes.truncate(end);
     Ok(())
 }
@@ -204,9 +204,9 @@ impl Frame {
             (λ left. length bytes.new.items ≤ length bytes.old.items + self.now.size) }
     {
         let text = text.get(self.between.len()..)?;
-        if let Some(form) = self.form.lone() {
-            let (bits, length) = likely_number(&form, text)?;
-            put_number(bytes, order, form.width, bits).ok()?;
+        if let Some(form) = self.form.lone_number() {
+            let (bits, length) = likely_number(form, text)?;
+            put_number(bytes, order, self.form.size, bits).ok()?;
             return text.get(length..);
         }
         self.likely_rest(alloc, written, cell, order, bytes, text)

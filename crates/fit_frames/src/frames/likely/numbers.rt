@@ -1,79 +1,97 @@
 //! Guesses the numbers that a text shows, up to eight digits at a time. Nothing is claimed of a guess.
 use fit_cells::NumberForm;
 
-/// The powers of ten that have a digit less than a word has bytes, and the next one.
-const POWERS: [u64; 9] = [
-    1,
-    10,
-    100,
-    1_000,
-    10_000,
-    100_000,
-    1_000_000,
-    10_000_000,
-    100_000_000,
-];
-
-/// The number that eight digits write, by what they stand for, the first in the lowest byte: neighbours are added up, then pairs, then
-/// fours.
+/// What the first eight bytes of a text stand for as digits, the first in the lowest byte. A shorter text has none.
 #[inline(always)]
-fn eight_digits(digits: u64) -> u64 {
-    let pairs = digits.wrapping_mul(10).wrapping_add(digits >> 8);
-    let front = (pairs & 0xFF_0000_00FF).wrapping_mul(0xF_4240_0000_0064);
-    let back = ((pairs >> 16) & 0xFF_0000_00FF).wrapping_mul(0x2710_0000_0001);
-    front.wrapping_add(back) >> 32
+fn first_word(text: &[u8]) -> Option<u64> {
+    let (front, _) = text.split_first_chunk::<8>()?;
+    Some(u64::from_le_bytes(*front) ^ 0x3030_3030_3030_3030)
 }
 
-/// The number that the first digits of a text write, at most eight, and how many these are. A shorter text has none.
+/// How many bits of a word are before the first byte that is no digit.
 #[inline(always)]
-fn first_digits(text: &[u8]) -> Option<(u64, usize)> {
-    let [a, b, c, d, e, f, g, h, ..] = text else {
+fn digit_bits(word: u64) -> u32 {
+    // the highest bit of each byte that is no digit, unless one before it is none
+    let others = (word.wrapping_add(0x7676_7676_7676_7676) | word) & 0x8080_8080_8080_8080;
+    others.trailing_zeros() & 0x78
+}
+
+/// The number that the digits in the lowest bits of a word write, that many bits: neighbours are added up, then pairs, then fours.
+#[inline(always)]
+fn number_in(word: u64, bits: u32) -> u64 {
+    let digits = word.wrapping_shl(64u32.wrapping_sub(bits));
+    let pairs = digits.wrapping_mul(10).wrapping_add(digits >> 8) & 0xFF_00FF_00FF_00FF;
+    let fours = (pairs.wrapping_mul(0x64_0001) >> 16) & 0xFFFF_0000_FFFF;
+    fours.wrapping_mul(0x2710_0000_0001) >> 32
+}
+
+/// What a byte stands for as a digit, and 10 or more where it is none.
+#[inline(always)]
+fn digit_of(byte: u8) -> u64 {
+    u64::from(byte.wrapping_sub(b'0'))
+}
+
+/// The whole number of at most ten digits with which a text begins, by what its first eight digits write, and how many digits it has.
+#[inline(always)]
+fn after_eight(number: u64, text: &[u8]) -> Option<(u64, usize)> {
+    let [_, _, _, _, _, _, _, _, ninth, tenth, ..] = text else {
         return None;
     };
-    let word = u64::from_le_bytes([*a, *b, *c, *d, *e, *f, *g, *h]);
-    let digits = word ^ 0x3030_3030_3030_3030;
-    // the highest bit of each byte that is no digit, unless one before it is none
-    let others = (digits.wrapping_add(0x7676_7676_7676_7676) | digits) & 0x8080_8080_8080_8080;
-    let bits = others.trailing_zeros() & 0x78;
-    if bits == 0 {
-        return Some((0, 0));
+    let (ninth, tenth) = (digit_of(*ninth), digit_of(*tenth));
+    if ninth >= 10 {
+        return Some((number, 8));
     }
-    let number = eight_digits(digits.wrapping_shl(64u32.wrapping_sub(bits)));
-    Some((number, (bits / 8) as usize))
+    let number = number.wrapping_mul(10).wrapping_add(ninth);
+    if tenth >= 10 {
+        return Some((number, 9));
+    }
+    Some((number.wrapping_mul(10).wrapping_add(tenth), 10))
 }
 
-/// The number that the first digits of a text write, at most sixteen, and how many these are.
-#[inline(always)]
-fn likely_whole(text: &[u8]) -> Option<(u64, usize)> {
-    let (number, length) = first_digits(text)?;
-    if length != 8 {
-        return Some((number, length));
+/// How many bytes a number with a point has at most.
+const LONGEST: usize = 24;
+
+/// The number that a text begins with, without its point, and how many bytes that takes: digit by digit.
+#[inline(never)]
+fn likely_long(text: &[u8]) -> Option<(u64, usize)> {
+    let mut number = 0u64;
+    for (place, byte) in text.get(..LONGEST)?.iter().enumerate() {
+        let digit = digit_of(*byte);
+        if digit < 10 {
+            number = number.wrapping_mul(10).wrapping_add(digit);
+        } else if *byte != b'.' {
+            return Some((number, place));
+        }
     }
-    let (back, count) = first_digits(text.get(8..)?)?;
-    let power = POWERS.as_slice().get(count)?;
-    let number = number.wrapping_mul(*power).wrapping_add(back);
-    Some((number, count.wrapping_add(8)))
+    None
 }
 
-/// The number of this form that the first digits of a text write without their point, and how many bytes that takes. Every decimal of
-/// the form is written.
+/// The number of this form that a text writes without its point, and how many bytes that takes, by the first eight bytes and how many
+/// bits of them are digits before the point. Every decimal of the form is written.
 #[inline(always)]
-fn likely_decimal(form: &NumberForm, text: &[u8]) -> Option<(u64, usize)> {
-    let (mut number, length) = likely_whole(text)?;
-    if form.decimals == 0 || length == 0 {
-        return Some((number, length));
+fn likely_decimal(form: &NumberForm, word: u64, bits: u32, text: &[u8]) -> Option<(u64, usize)> {
+    if form.decimals == 0 {
+        let number = number_in(word, bits);
+        if bits == 64 {
+            return after_eight(number, text);
+        }
+        return Some((number, (bits / 8) as usize));
     }
-    let start = length.wrapping_add(1);
-    let end = start.wrapping_add(form.decimals as usize);
-    for byte in text.get(start..end)? {
-        let digit = u64::from(byte.wrapping_sub(b'0'));
-        number = number.wrapping_mul(10).wrapping_add(digit);
+    let end = bits.wrapping_add(8 * u32::from(form.decimals));
+    if end > 56 {
+        return likely_long(text);
     }
-    Some((number, end))
+    let decimals = u64::MAX.wrapping_shl(bits);
+    let digits = (word & !decimals) | (word >> 8 & decimals);
+    Some((number_in(digits, end), (end / 8) as usize + 1))
 }
 
 /// A number in units of the last decimal, over the factor of its form.
+#[inline(always)]
 fn over_factor(number: u64, factor: u32) -> u64 {
+    if factor == 1 {
+        return number;
+    }
     match factor {
         2 => number / 2,
         625 => number / 625,
@@ -82,30 +100,27 @@ fn over_factor(number: u64, factor: u32) -> u64 {
     }
 }
 
-/// The bits that a number of this form has of some more.
-fn last_bits(form: &NumberForm, number: u64) -> u64 {
-    let others = 64u32.wrapping_sub(8 * u32::from(form.width));
-    number & u64::MAX.wrapping_shr(others)
-}
-
-/// The bits of the number below zero with which a text may begin, after its sign, and how many bytes that takes.
+/// The bits that the number below zero may have with which a text begins, after its sign, and how many bytes that takes.
 #[inline(never)]
 fn likely_negative(form: &NumberForm, text: &[u8]) -> Option<(u64, usize)> {
-    let (number, length) = likely_decimal(form, text)?;
+    let word = first_word(text)?;
+    let (number, length) = likely_decimal(form, word, digit_bits(word), text)?;
     let raw = form.shift.wrapping_sub(over_factor(number, form.factor));
-    Some((last_bits(form, raw), length.wrapping_add(1)))
+    Some((raw, length.wrapping_add(1)))
 }
 
-/// The bits of the number of this form with which a text may begin, and how many bytes that takes.
+/// The bits that the number of this form with which a text may begin has in its lowest bytes, and how many bytes that takes.
 #[inline(always)]
 pub(crate) fn likely_number(form: &NumberForm, text: &[u8]) -> Option<(u64, usize)> {
-    let (number, length) = likely_decimal(form, text)?;
-    if length == 0 {
+    let word = first_word(text)?;
+    let bits = digit_bits(word);
+    if bits == 0 {
         return match text {
             [b'-', rest @ ..] => likely_negative(form, rest),
             _ => Some((form.invalid, 0)),
         };
     }
+    let (number, length) = likely_decimal(form, word, bits, text)?;
     let raw = form.shift.wrapping_add(over_factor(number, form.factor));
-    Some((last_bits(form, raw), length))
+    Some((raw, length))
 }
