@@ -63,7 +63,7 @@ fn add_entry(maker: &mut Maker, turn: u32, bytes: &mut Vec<u8>) -> Result<(), Al
 }
 
 /// Adds what a command writes of a chain to a digest.
-fn tell(
+pub(crate) fn tell(
     alloc: Global,
     command: Command,
     bytes: &[u8],

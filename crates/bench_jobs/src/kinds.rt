@@ -1,15 +1,12 @@
 //! The messages between the first and the last of a recording, for each kind.
 use crate::layout::{
-    ACCELERATION, AXIS_FIELDS, BEAT_FIELDS, BODY_FIELDS, COURSE_FIELDS, COURSE_POINT, Entry,
-    HEART_BEATS, LAP, LAP_FIELDS, PEDAL_FIELDS, PLACE_FIELDS, POINT_FIELDS, RECORD, SENSOR_FIELDS,
-    SHORT_FIELDS, UNLISTED, UNLISTED_FIELDS, WATCH_FIELDS, WORKOUT, WORKOUT_FIELDS,
+    ACCELERATION, AXIS_FIELDS, BEAT_FIELDS, BODY_FIELDS, COURSE_FIELDS, COURSE_POINT, HEART_BEATS,
+    LAP, LAP_FIELDS, PEDAL_FIELDS, PLACE_FIELDS, POINT_FIELDS, RECORD, SENSOR_FIELDS, SHORT_FIELDS,
+    STAMP, UNLISTED, UNLISTED_FIELDS, WATCH_FIELDS, WORKOUT, WORKOUT_FIELDS,
 };
 use crate::recording::{AT_LAP, AT_MORE, AT_OTHER, AT_PLAIN, AT_RECORD, Kind, Maker};
 use crate::ride::Ride;
 use std::alloc::AllocError;
-
-/// The field that begins most messages.
-static STAMP: [Entry; 1] = [[253, 4, 0x86]];
 
 /// The least length of a message, about.
 const LEAST: u64 = 8;
@@ -80,6 +77,8 @@ impl Maker {
             }
             Kind::Texts => self.tape.define(AT_MORE, WORKOUT, &[], &WORKOUT_FIELDS),
             Kind::Described => self.put_developer(),
+            Kind::Interleaved => self.begin_wide(),
+            Kind::Small => self.begin_small(),
             Kind::Plain | Kind::Redefined | Kind::Definitions => {
                 self.tape.define(AT_RECORD, RECORD, &STAMP, &POINT_FIELDS)
             }
@@ -114,6 +113,8 @@ impl Maker {
             Kind::Items => self.put_items(ride, count)?,
             Kind::Texts => return self.put_long_text(),
             Kind::Described => self.put_described(ride, count)?,
+            Kind::Interleaved => self.put_wide_message(ride, count)?,
+            Kind::Small => self.put_small_message(ride)?,
         }
         self.put_between(ride, count)
     }

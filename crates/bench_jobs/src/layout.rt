@@ -50,6 +50,9 @@ pub(crate) const DEVELOPER: u16 = 207;
 /// One that no profile lists.
 pub(crate) const UNLISTED: u16 = 0xFF07;
 
+/// The field that begins most messages.
+pub(crate) static STAMP: [Entry; 1] = [[253, 4, UINT32]];
+
 pub(crate) static FILE_FIELDS: [Entry; 5] = [
     [0, 1, ENUM],
     [1, 2, UINT16],
@@ -146,6 +149,42 @@ pub(crate) static WATCH_FIELDS: [Entry; 14] = [
     [41, 2, UINT16],
 ];
 
+/// A second as a bicycle computer with a power meter writes it, after its timestamp: 52 bytes. The last four are lists of two numbers.
+pub(crate) static WIDE_FIELDS: [Entry; 24] = [
+    [0, 4, SINT32],
+    [1, 4, SINT32],
+    [5, 4, UINT32],
+    [2, 2, UINT16],
+    [78, 4, UINT32],
+    [6, 2, UINT16],
+    [73, 4, UINT32],
+    [3, 1, UINT8],
+    [4, 1, UINT8],
+    [7, 2, UINT16],
+    [13, 1, SINT8],
+    [29, 4, UINT32],
+    [30, 1, UINT8],
+    [39, 2, UINT16],
+    [40, 2, UINT16],
+    [41, 2, UINT16],
+    [42, 1, ENUM],
+    [43, 1, UINT8],
+    [45, 1, UINT8],
+    [53, 1, UINT8],
+    [69, 2, UINT8],
+    [70, 2, UINT8],
+    [71, 2, UINT8],
+    [72, 2, UINT8],
+];
+
+/// A second of a ride in a few fields, after its timestamp: 11 bytes.
+pub(crate) static SMALL_FIELDS: [Entry; 4] = [
+    [0, 4, SINT32],
+    [1, 4, SINT32],
+    [3, 1, UINT8],
+    [6, 2, UINT16],
+];
+
 /// A second with compressed speed and distance: 18 bytes.
 pub(crate) static SHORT_FIELDS: [Entry; 8] = [
     [0, 4, SINT32],
@@ -183,6 +222,9 @@ pub(crate) static COURSE_FIELDS: [Entry; 6] = [
 
 /// The developer fields of a power sensor: 9 bytes.
 pub(crate) static SENSOR_FIELDS: [Entry; 4] = [[0, 2, 0], [1, 2, 0], [2, 4, 0], [3, 1, 0]];
+
+/// The developer fields of a message of `WIDE_FIELDS`, which are floats: 8 bytes.
+pub(crate) static STRAIN_FIELDS: [Entry; 2] = [[1, 4, 0], [3, 4, 0]];
 
 /// Five times between heart beats.
 pub(crate) static BEAT_FIELDS: [Entry; 1] = [[0, 10, UINT16]];

@@ -5,9 +5,11 @@
 mod archive;
 mod awkward;
 mod changes;
+mod devices;
 mod digest;
 mod failure;
 mod history;
+mod interleaved;
 mod kinds;
 mod layout;
 mod random;
@@ -20,11 +22,11 @@ use std::alloc::Global;
 use std::process::ExitCode;
 
 const USAGE: &str =
-    "usage: bench_jobs uploads|history|changes|texts|archive|awkward|all AMOUNT SEED";
+    "usage: bench_jobs uploads|history|changes|texts|archive|awkward|devices|all AMOUNT SEED";
 
 /// What users wait for.
-static JOBS: [&str; 6] = [
-    "uploads", "history", "changes", "texts", "archive", "awkward",
+static JOBS: [&str; 7] = [
+    "uploads", "history", "changes", "texts", "archive", "awkward", "devices",
 ];
 
 fn main(rt: HostRuntime) -> ExitCode {
@@ -90,6 +92,7 @@ fn do_job(alloc: Global, name: &str, amount: u32, seed: u64) -> Result<u64, fail
         "texts" => texts::run(alloc, amount, seed),
         "archive" => archive::run(alloc, amount, seed),
         "awkward" => awkward::run(alloc, amount, seed),
+        "devices" => devices::run(alloc, amount, seed),
         _ => Err(failure::Failure::Usage),
     }
 }

@@ -35,6 +35,10 @@ pub(crate) enum Kind {
     Texts,
     /// Developer fields whose descriptions change.
     Described,
+    /// A message of 25 fields and two developer fields each second, in an order that changes, and one of heart beats after it.
+    Interleaved,
+    /// A message of five fields each second, and one of heart beats after it.
+    Small,
 }
 
 /// Local message types.

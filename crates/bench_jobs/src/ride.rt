@@ -183,6 +183,45 @@ impl Ride {
         ]
     }
 
+    /// What a field of `WIDE_FIELDS` or `SMALL_FIELDS` holds, as the number that its bytes spell. A field of the pedals has no value where
+    /// the power has none.
+    pub(crate) fn number_of(&self, field: u8) -> u32 {
+        match field {
+            0 => self.latitude,
+            1 => self.longitude,
+            2 | 78 => u32::from(self.altitude),
+            3 => u32::from(self.heard()),
+            4 => u32::from(self.cadence),
+            5 => self.distance,
+            6 | 73 => u32::from(self.speed),
+            7 => u32::from(self.pushed()),
+            13 => u32::from(self.temperature),
+            29 => self.work,
+            39 => 700 + u32::from(cut(self.noise, 38, 255)),
+            40 | 41 => 2300 + u32::from(cut(self.noise, 46, 255)),
+            42 => 2,
+            53 => u32::from(cut(self.noise, 47, 64)),
+            _ if self.pushed() == 0xFFFF => 0xFFFF,
+            _ => self.pedalled(field),
+        }
+    }
+
+    /// What a field of the pedals holds: the first of two numbers of seven bits, or both.
+    fn pedalled(&self, field: u8) -> u32 {
+        let first = cut(self.noise, u32::from(field & 31), 127);
+        let second = cut(self.noise, u32::from(field & 3) * 8, 127);
+        u32::from(first) | u32::from(second) << 8
+    }
+
+    /// The items of `STRAIN_FIELDS`: a strain from 512 to 767, and a stiffness from 9 to 10.
+    pub(crate) fn strains(&self) -> [u8; 8] {
+        let first = 0x4400_0000u32.wrapping_add(u32::from(cut(self.noise, 20, 255)) << 14);
+        let second = 0x4110_0000u32.wrapping_add(u32::from(cut(self.noise, 50, 255)) << 12);
+        let [s0, s1, s2, s3] = first.to_le_bytes();
+        let [k0, k1, k2, k3] = second.to_le_bytes();
+        [s0, s1, s2, s3, k0, k1, k2, k3]
+    }
+
     /// The items of `SHORT_FIELDS`.
     pub(crate) fn short(&self) -> [u8; 18] {
         let [y0, y1, y2, y3] = self.latitude.to_le_bytes();

@@ -38,17 +38,37 @@ pub(crate) fn run(alloc: Global, amount: u32, seed: u64) -> Result<u64, Failure>
     let mut edited = Vec::new(alloc);
     for turn in 0..amount {
         bytes.clear();
-        edited.clear();
         let size = maker.random.near(SIZES[(turn % 7) as usize]);
         maker.add_file(&mut bytes, KINDS[(turn & 7) as usize], u64::from(size))?;
-        let text = text_of(alloc, bytes.as_slice())?;
         let way = (turn / 8).wrapping_add(turn) & 3;
-        edit(&mut maker.random, way, text.as_slice(), &mut edited)?;
-        digest.add_bytes(edited.as_slice());
-        let written = bytes_of(alloc, edited.as_slice())?;
-        digest.add_bytes(written.as_slice());
+        edit_recording(
+            alloc,
+            &mut maker.random,
+            way,
+            bytes.as_slice(),
+            &mut edited,
+            &mut digest,
+        )?;
     }
     Ok(digest.value())
+}
+
+/// Adds to a digest the text of a recording as it was saved in one of four ways, and the file that it becomes.
+pub(crate) fn edit_recording(
+    alloc: Global,
+    random: &mut Random,
+    way: u32,
+    bytes: &[u8],
+    edited: &mut Vec<u8>,
+    digest: &mut Digest,
+) -> Result<(), Failure> {
+    let text = text_of(alloc, bytes)?;
+    edited.clear();
+    edit(random, way, text.as_slice(), edited)?;
+    digest.add_bytes(edited.as_slice());
+    let written = bytes_of(alloc, edited.as_slice())?;
+    digest.add_bytes(written.as_slice());
+    Ok(())
 }
 
 fn text_of(alloc: Global, bytes: &[u8]) -> Result<Vec<u8>, Failure> {
