@@ -5,7 +5,6 @@ import os
 import pickle
 import random
 import struct
-import sys
 import tempfile
 import unittest
 
@@ -163,4 +162,4 @@ def walk(blocks):
 
 
 if __name__ == "__main__":
-    unittest.main(argv=sys.argv[:1])
+    unittest.main()

@@ -2,23 +2,9 @@
 import ctypes
 from typing import Optional, Tuple
 
-from ._reasons import REASONS
+from ._reasons import BLOCK_REASONS, REASONS
 
 GOOD, REFUSED, TRUNCATED, NO_MEMORY, TEXT, UNWRITABLE, CLOSED, NO_KIND, BLOCK = range(9)
-
-# Why a block can't stand where it is, by the numbers of the reasons from 1, and what each says of the block.
-BLOCK_REASONS = (
-    ("Cut", "has a length that can't be, or the blocks end within a file"),
-    ("Kind", "is of a kind that can't stand there"),
-    ("Header", "is of a header that no file has"),
-    ("Local", "has a local message type over 15"),
-    ("Architecture", "has an architecture that is neither 0 nor 1"),
-    ("Entries", "has entries that don't fill it, or aren't as many as it says"),
-    ("Size", "has a field of over 255 bytes, or whose items have another width than its base type"),
-    ("Offset", "has a time offset that no header can have"),
-    ("Undefined", "is of a local message type that isn't defined"),
-    ("Items", "has items beyond its end"),
-)
 
 
 class Answer(ctypes.Structure):

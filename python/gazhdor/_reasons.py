@@ -1,4 +1,5 @@
-"""Why a byte is refused: each reason, by its number from 1, with what it says of the byte. Written by profile/make."""
+"""Why a byte is refused, and why a block can't be written: each reason, by its number from 1, with what it says of the byte or
+the block. Written by profile/make."""
 
 REASONS = (
     ("HeaderSize", "begins a header of 0 to 11 or 13 bytes"),
@@ -12,4 +13,17 @@ REASONS = (
     ("Architecture", "is neither 0 nor 1"),
     ("FileSum", "isn't that of the closing checksum (the protocol's CRC of the file)"),
     ("TooManyFiles", "follows the 16,777,215th file of a chain"),
+)
+
+BLOCK_REASONS = (
+    ("Cut", "isn't whole: its length isn't a multiple of 8 from 24 on, or goes past the end; or it is missing there, before a file has begun or has ended"),
+    ("Kind", "is of a kind that can't stand there"),
+    ("Header", "is a header of a size, a protocol version, a profile version or a kind of checksum that no file has"),
+    ("Local", "has a local message type above 15, or above 3 beside a time offset"),
+    ("Architecture", "has an architecture that is neither 0 nor 1"),
+    ("Entries", "is a definition that its entries don't fill as its counts say"),
+    ("Size", "has a field of more than 255 bytes, or with items of another width than a reader gives them"),
+    ("Offset", "has a time offset of 32 to 254"),
+    ("Undefined", "is a message whose local message type isn't defined"),
+    ("Items", "is a message that ends before the items of its fields do"),
 )
