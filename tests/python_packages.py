@@ -245,6 +245,15 @@ except ImportError as error:
         program = f"import gazhdor; print(gazhdor.check({RIDE!r}), len(list(gazhdor.messages({RIDE!r}))), len(list(gazhdor.table({RIDE!r}))))"
         self.assertEqual(imported(self.alone, program, GAZHDOR_LIBRARY=older).stdout, imported(self.alone, program).stdout)
 
+    def test_older_writer(self):
+        """A library of this version from before there was the call on blocks: what reads is as it is, and a writer says so at once."""
+        older = self.written("unwritten.so", self.bytes.replace(b"gazhdor_from_messages\0", b"gazhdor_fr0m_messages\0"))
+        what = f"{older} is older than the module gazhdor {VERSION}: it makes no files of blocks"
+        for call in ("gazhdor.Writer('none.fit')", "gazhdor.from_blocks(b'')"):
+            self.refused("WrongVersion", older, what, GAZHDOR_LIBRARY=older, say=self.SAY.replace("import gazhdor\n", f"import gazhdor; {call}\n"))
+        program = f"import gazhdor; print(gazhdor.check({RIDE!r}), len(gazhdor.blocks({RIDE!r})))"
+        self.assertEqual(imported(self.alone, program, GAZHDOR_LIBRARY=older).stdout, imported(self.alone, program).stdout)
+
     def test_machine(self):
         """A module that was unpacked on another machine than pip would allow."""
         for name, value, machine in (("machine", "riscv64", "riscv64 Linux"), ("system", "Darwin", f"{platform.machine()} Darwin")):
@@ -295,9 +304,21 @@ def use(upload: BinaryIO, opened: io.BufferedReader) -> None:
         count: int = error.count
     except gazhdor.FitError as fault:
         place: Optional[int] = fault.place
+    again: bytes = gazhdor.from_blocks(gazhdor.blocks(opened))
+    with gazhdor.Writer(upload, names={140: "physiology"}) as out:
+        dev: gazhdor.DeveloperField = out.describe("Form power", "watts", "uint16", native=("record", 7))
+        record: gazhdor.Definition = out.define("record", ["timestamp", 3, dev, (200, "uint16"), (201, "string", 16)], local=1)
+        record.write({dev: 5, 3: None}, timestamp=datetime.datetime.now(datetime.timezone.utc))
+        record.columns({"timestamp": [1, 2]}, heart_rate=[None, 1.5])
+        out.write("file_id", type=4)
+        for event in gazhdor.messages(upload, everything=True):
+            if isinstance(event, gazhdor.DefinitionMessage):
+                sizes: List[int] = [field.size for field in event.fields]
+            out.copy(event.replace(heart_rate=1).emptied(lambda field: field.base == 0x85) if isinstance(event, gazhdor.Message) else event)
 """
 WRONG = ("gazhdor.check(io.StringIO())", "gazhdor.check(5)", "gazhdor.from_csv(pathlib.Path())", "gazhdor.table('a').place", "row: str = gazhdor.check('a').row")
 WRONG += ("gazhdor.messages('a', only=1.5)", "gazhdor.lists('a', 'record', [1.5])", "next(gazhdor.messages('a')).place = 5", "gazhdor.columns('a')")
+WRONG += ("gazhdor.Writer(5)", "gazhdor.from_blocks('a')", "gazhdor.messages('a', only='lap', everything=True)", "gazhdor.Writer('a').copy(5)", "gazhdor.Writer(io.StringIO())")
 WRONG += ("gazhdor.Stream('rows')", "gazhdor.Stream('show', only=20)", "gazhdor.Stream('table').feed('a')", "number: int = gazhdor.Stream('table').finish()")
 
 

@@ -1,4 +1,4 @@
-"""FIT files from Python: check them, read their tables, and convert them to text and back.
+"""FIT files from Python: check them, read their tables, convert them to text and back, and write them.
 
     import gazhdor
 
@@ -14,6 +14,8 @@
         for piece in upload:
             text.write(stream.feed(piece))
         text.write(stream.finish())
+    with gazhdor.Writer("new.fit") as out:                                          # a file of values
+        out.write("record", timestamp=start, heart_rate=120)
 
 Each call hands the bytes of the file to the proved library of Gazhdor. The library lets other threads run meanwhile. A file object is
 read from where it is to its end, or to a fault, and stays open.
@@ -23,7 +25,7 @@ refused, `ReadFailed` where a read fails, `NotBinary` where a file object gives 
 `import gazhdor` raises a `LibraryError` where the library can't be used. The variable GAZHDOR_LIBRARY names another libgazhdor.so
 than the one beside this file, or in the tree that of release/.
 
-From a shell: python3 -m gazhdor check|show|table|json|gpx|to-csv|from-csv|mend [FILE..]
+From a shell: python3 -m gazhdor check|show|table|json|gpx|to-csv|from-csv|mend [FILE..], and edit and join
 """
 import datetime
 import itertools
