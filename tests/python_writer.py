@@ -275,6 +275,10 @@ class Times(unittest.TestCase):
         self.assertEqual(one(999, {"begun": START}, names=names), packed("<I", SECONDS))
         self.assertEqual(one(999, {"at": 90.0}, names=names), packed("<i", 2**30))
         self.assertEqual(one("record", {"vertical_ratio": 8.12}, names=gazhdor.EXTRA), packed("<H", 812))
+        self.assertEqual(one("record", {"pulse": 120}, names={("record", 3): "pulse"}), b"\x78")
+        self.assertEqual(one("record", {"pulse": 12.5}, names={("record", 3): ("pulse", "%", 10, 0, None, "uint16")}), packed("<H", 125))
+        with self.assertRaises(gazhdor.UnknownName):
+            one("record", {"heart_rate": 120}, names={("record", 3): "pulse"})
 
 
 class Fields(unittest.TestCase):
@@ -358,6 +362,8 @@ class Fields(unittest.TestCase):
         self.assertEqual((dict(changed), changed.time), ({"timestamp": SECONDS + 86400, "heart_rate": 121, "position_lat": None, "altitude": 409.2}, START + datetime.timedelta(1)))
         self.assertEqual((message["heart_rate"], message.time, message.replace()), (120, START, message))
         self.assertIsNone(message.replace(timestamp=None).time)
+        empty = message.emptied(lambda field: field.base in (UINT32, SINT32) or field.unit == "m")
+        self.assertEqual((dict(empty), empty.time), ({"timestamp": None, "heart_rate": 120, "position_lat": None, "altitude": None}, None))
         with self.assertRaises(gazhdor.UnknownName):
             message.replace(hart_rate=1)
         with self.assertRaises(KeyError):

@@ -1,5 +1,6 @@
 """Columns that are written: the blocks of many messages at once."""
 import array
+import datetime
 from typing import Any, Dict, List, Mapping, Optional
 
 from ._arrays import is_array, items_of_array, items_of_list
@@ -68,8 +69,8 @@ def _items_of_list(pack: Packer, column: List[Any]) -> Any:
 
 
 def _none_of_nan(value: Any) -> Any:
-    """The value; None where it isn't a number, as `columns` has it."""
-    return None if type(value) is float and value != value else value
+    """The value; None where it isn't a number, or no time, as `columns` has it."""
+    return None if isinstance(value, (float, datetime.datetime)) and value != value else value
 
 
 def _of_row(pack: Packer, make: Any, value: Any, row: int) -> Any:

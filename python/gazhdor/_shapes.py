@@ -73,9 +73,9 @@ def message_number(message: Kind, names: Optional[Names]) -> int:
 
 def _known(message: int, names: Optional[Names]) -> Dict[str, int]:
     """The numbers of the fields of a message that have names."""
-    known = dict(fields_of(message))
-    if names:
-        known.update((named.name, number) for number, named in names.fields(message).items() if named.name)
+    own = {number: named.name for number, named in names.fields(message).items() if named.name} if names else {}
+    known = {name: number for name, number in fields_of(message).items() if number not in own}
+    known.update((name, number) for number, name in own.items())
     return known
 
 

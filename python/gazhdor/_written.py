@@ -98,7 +98,7 @@ class Definition:
     def columns(self, __columns: Optional[Mapping[Any, Any]] = None, **fields: Any) -> None:
         """Writes a message for each row of columns of one length: lists, arrays of numpy, series of pandas, or whatever gives values one after
         another. None, NaN and NaT stand for no value, as does a field that isn't named. Where one of them doesn't fit, none is written."""
-        columns = listed({**(__columns or {}), **fields})
+        columns = listed({**({} if __columns is None else __columns), **fields})
         rows = max(map(len, columns.values()), default=0)
         for key, column in columns.items():
             if not is_of_numbers(column):
