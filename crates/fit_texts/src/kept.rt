@@ -3,9 +3,11 @@ ghost use Rattle.std.specs.Prelude.{◌≡◌, ◌↔◌, ℕ, IfOk, IsTrue, OnO
 ghost use Rattle.fit_texts.specs.Current.{NoneAreCurrent, Renews};
 
 pub(crate) mod developer;
+mod fields;
 pub(crate) mod message;
 
-use fit_record::{FieldDef, MessageDef, same_fields};
+use crate::kept::fields::are_same_fields;
+use fit_record::{FieldDef, MessageDef};
 use std::alloc::{AllocError, Global};
 use std::marker::Model;
 
@@ -53,7 +55,7 @@ impl Kept {
     {
         self.local == local
             && self.global == definition.global
-            && same_fields(self.fields.as_slice(), definition.fields.as_slice())
+            && are_same_fields(self.fields.as_slice(), definition.fields.as_slice())
     }
 }
 
