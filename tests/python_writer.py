@@ -125,6 +125,51 @@ class BothWays(unittest.TestCase):
             self.assertEqual([[(repr(m.raw), m.developer, m.number) for m in message.fields] for message in again], told)
 
 
+def raws(message):
+    return message.number, [(field.number, field.developer, repr(field.raw)) for field in message.fields]
+
+
+class Mixed(unittest.TestCase):
+    def kept(self, message):
+        """What has to come back of a message that is copied; the time of a compressed header may become a timestamp."""
+        number, fields = raws(message)
+        return number, [field for field in fields if field[0] != 253 or field[1] is not None], message.time
+
+    def test_all_at_once(self):
+        """Messages of several files, with their definition messages and without, some left out, between messages that are written from values by
+        definitions of all local message types."""
+        r = random.Random(9)
+        for _ in range(60):
+            sources = [any_file(r) for _ in range(r.randrange(1, 4))]
+            readers = [gazhdor.messages(source, everything=True) for source in sources]
+            sink, wanted, own = io.BytesIO(), [], []
+            with gazhdor.Writer(sink) as out:
+                out.file()
+                event = None
+                reader = readers.pop()
+                while reader:
+                    event = next(reader, None)
+                    if event is None:
+                        reader = readers.pop() if readers else None
+                        out.file()
+                        own = []
+                    elif isinstance(event, gazhdor.Message):
+                        if event.number == 206 or r.random() < 0.6:
+                            out.copy(event)
+                            wanted.append(self.kept(event))
+                    elif isinstance(event, gazhdor.DefinitionMessage) and r.random() < 0.5 and event.number != 206:
+                        out.copy(event)
+                    if r.random() < 0.3:
+                        if len(own) < 20 and r.random() < 0.5:
+                            own.append(out.define(5000 + len(own), [(7, "uint16")], r.choice((None, None, r.randrange(16)))))
+                        if own:
+                            which = r.choice(own)
+                            which.write({7: len(wanted) % 60000})
+                            wanted.append((5000 + own.index(which), [(7, None, repr(len(wanted) % 60000))], None))
+            found = [self.kept(message) for message in gazhdor.messages(sink.getvalue())]
+            self.assertEqual(found, wanted)
+
+
 class Bytes(unittest.TestCase):
     def test_records(self):
         """A file by its bytes: place and altitude by the arithmetic of the profile, 2^31 semicircles for 180 degrees, fifths of a metre over -500."""

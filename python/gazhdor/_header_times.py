@@ -1,5 +1,4 @@
 """Times that count from the message before, in compressed timestamp headers."""
-import struct
 from typing import Optional, Tuple
 
 from ._layout import FieldDefinition, Kept, definition_block, empty_message, fields_of_block, form_of
@@ -23,16 +22,16 @@ def is_out_of_time(block: bytes, before: Optional[bytes]) -> bool:
 def with_time(definition: Definition, block: bytes) -> Tuple[Definition, bytes]:
     """The same message with a normal header and a timestamp, and its definition."""
     own = definition.by_key.get(253)
-    if own is not None:
+    if own is not None and own.type:
         plain = bytearray(block[:7] + b"\xff" + block[8:])
-        if own.type and plain[own.begins : own.begins + 4] == NO_TIME:
+        if plain[own.begins : own.begins + 4] == NO_TIME:
             plain[own.begins : own.begins + 4] = block[32:36]
         return definition, bytes(plain)
     made = definition.made.get("with time")
     if made is None:
         made = definition.made["with time"] = _dated(definition)
     found = empty_message(made, block[6])
-    for old, new in zip(definition.entries, [entry for entry in made.entries if entry.key != 253]):
+    for old, new in zip(definition.entries, made.entries[1:]):
         size = old.count * old.width
         found[new.begins : new.begins + size] = block[old.begins : old.begins + size]
     time = made.by_key[253].begins
@@ -42,8 +41,7 @@ def with_time(definition: Definition, block: bytes) -> Tuple[Definition, bytes]:
 
 
 def _dated(definition: Definition) -> Definition:
+    """The same fields after a timestamp, which counts of several."""
     data = definition.data
-    fields = fields_of_block(data)
-    count: int = struct.unpack_from("<H", data, 34)[0]
-    forms = [form_of(definition.number, field) for field in (*fields[:count], _TIMESTAMP, *fields[count:])]
+    forms = [form_of(definition.number, field) for field in (_TIMESTAMP, *fields_of_block(data))]
     return Definition(definition_block(definition.number, forms, Kept(data[5], data[6] == 1, data[7])))

@@ -3,6 +3,7 @@ from typing import Any, Dict, List, Optional, Tuple
 
 from ._messages import Message
 from ._writer import Writer
+from .errors import WrongValue
 
 LAP, SESSION, RECORD, EVENT, SPORT, ACTIVITY = 19, 18, 20, 21, 12, 34
 MADE_ANEW = (LAP, SESSION, ACTIVITY)
@@ -146,10 +147,22 @@ class Anew:
             return
         laps = [lap for lap in self._laps if lap.span is not None]
         for number, lap in enumerate(laps):
-            out.write("lap", {"message_index": number, **lap.lap()})
+            _write(out, "lap", {"message_index": number, **lap.lap()})
         counts = {"first_lap_index": 0, "num_laps": len(laps), "event": _OF_SESSION, "event_type": _STOP, "trigger": 0}
         told = self._whole.told()
-        out.write("session", {"message_index": 0, **told, **self._sport, **counts})
+        _write(out, "session", {"message_index": 0, **told, **self._sport, **counts})
         local = {} if self._zone is None else {"local_timestamp": told["timestamp"] + self._zone}
         activity = {"timestamp": told["timestamp"], "total_timer_time": told["total_timer_time"], "num_sessions": 1, "type": 0}
-        out.write("activity", {**activity, "event": _OF_ACTIVITY, "event_type": _STOP, **local})
+        _write(out, "activity", {**activity, "event": _OF_ACTIVITY, "event_type": _STOP, **local})
+
+
+def _write(out: Writer, message: str, values: Dict[str, Any]) -> None:
+    """Writes a message, and nothing of what its fields can't have, as the mean of values that no ride has."""
+    while True:
+        try:
+            out.write(message, values)
+            return
+        except WrongValue as wrong:
+            if wrong.field not in values:
+                raise
+            values = {name: value for name, value in values.items() if name != wrong.field}
