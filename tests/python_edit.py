@@ -129,6 +129,12 @@ class Edit(unittest.TestCase):
             self.assertFalse(os.path.exists(at("none.fit")))
         self.assertEqual(command("edit", "--", RIDE, "--out.fit").returncode, 0)
         os.unlink("--out.fit")
+        words = [sys.executable, "-m", "gazhdor", "edit", "-", "-"]
+        self.assertEqual(subprocess.run(words, input=open_bytes(RIDE), stdout=subprocess.PIPE).stdout, open_bytes(RIDE))
+        done = subprocess.run([*words, "--shift", "7"], input=open_bytes(bad), stdout=subprocess.PIPE, stderr=subprocess.PIPE)
+        self.assertEqual((done.returncode, done.stdout), (1, b""))
+        with open(at("full"), "wb") as full:
+            self.assertEqual(subprocess.run([*words[:-2], RIDE, "/dev/full"], stderr=full).returncode, 4)
 
 
 class Join(unittest.TestCase):

@@ -493,7 +493,7 @@ class Columns(unittest.TestCase):
         for columns, kind in (({"heart_rate": [1, 2], "power": [1]}, ValueError), ({"heart_rate": "12"}, TypeError), ({"heart_rate": 5}, TypeError), ({"hart_rate": [1]}, gazhdor.UnknownName)):
             with self.assertRaises(kind):
                 written(lambda out: out.define("record", "heart_rate power").columns(columns))
-        for key, column, row in (("heart_rate", [1, 2, 300], 2), ("heart_rate", [1, None, 255], 2), ("power", [1.0, float("inf")], 1), ("altitude", [0.0, 1e300], 1), ("heart_rate", [True], 0), ("heart_rate", [5, "6"], 1)):
+        for key, column, row in (("heart_rate", [1, 2, 300], 2), ("heart_rate", [1, None, 255], 2), ("power", [1.0, float("inf")], 1), ("altitude", [0.0, 1e300], 1), ("heart_rate", [True], 0), ("heart_rate", [5, "6"], 1), ("timestamp", [START, START.replace(tzinfo=None)], 1)):
             with self.assertRaises(gazhdor.WrongValue) as caught:
                 written(lambda out: out.define("record", [key]).columns({key: column}))
             self.assertEqual((caught.exception.field, caught.exception.row), (key, row))

@@ -6,6 +6,7 @@ from typing import Any, Dict, List, Mapping, Optional
 from ._arrays import is_array, items_of_array, items_of_list
 from ._bases import FLOAT, TEXT
 from ._items import CLEAR, SURE, Packer
+from ._times import EPOCH, SYSTEM_TIMES
 from .errors import WrongValue
 
 _NUMBERS = {int, float, type(None)}
@@ -82,18 +83,28 @@ def _of_row(pack: Packer, make: Any, value: Any, row: int) -> Any:
 
 
 def _quick(pack: Packer, column: List[Any]) -> Optional[List[int]]:
-    """The items of whole numbers, or of floats, all at once; None where one of them has to be looked at for itself."""
+    """The items of whole numbers, of floats or of times, all at once; None where one of them has to be looked at for itself."""
     types = set(map(type, column))
     if types == {int} and pack.takes_items:
         items = column
-    elif types == {float}:
-        found = _steps(pack, column)
+    elif types in ({float}, {datetime.datetime}):
+        found = _steps(pack, column) if types == {float} else _seconds(pack, column)
         if found is None:
             return None
         items = found
     else:
         return None
     return items if pack.has(min(items), max(items)) and pack.entry.invalid not in items else None
+
+
+def _seconds(pack: Packer, column: List[datetime.datetime]) -> Optional[List[int]]:
+    if pack.entry.type != "date_time" or pack.entry.is_scaled:
+        return None
+    try:
+        found = [int((time - EPOCH).total_seconds()) for time in column]
+    except TypeError:
+        return None
+    return found if min(found) >= SYSTEM_TIMES else None
 
 
 def _steps(pack: Packer, column: List[float]) -> Optional[List[int]]:
