@@ -6,7 +6,7 @@ pub use Rattle.fit_chain.specs.Events.{file_events}
 pub use Rattle.fit_csv.specs.FromText.{Answers, FromTextOf, IsTextOf}
 pub use Rattle.fit_csv.specs.declared.fault.CsvFault.{CsvFault}
 pub use Rattle.fit_from_messages.specs.declared.fault.BlocksFault.{BlocksFault}
-pub use Rattle.fit_from_messages.specs.FromBlocks.{AreBlocksOf, FromBlocks, FromBlocksOf, FromFault}
+pub use Rattle.fit_from_messages.specs.FromBlocks.{AreBlocksOf, FromBlocks, FromBlocksOf}
 pub use Rattle.fit_report.specs.Heard.{Lines, text_of}
 pub use Rattle.fit_report.specs.Reports.{Channel, ReportsChain, HasTold}
 pub use Rattle.fit_c.specs.Answers.{IsTextUnlessNoMemory, blocks_answer, conversion_answer, given, report_answer, check_answer, fault_answer}

@@ -21,7 +21,7 @@ use Rattle.fit_from_messages.specs.declared.fault.BlockReason.{BlockReason}
 use Rattle.fit_from_messages.specs.declared.fault.BlockReason.TheVariants as block
 use Rattle.fit_from_messages.specs.declared.fault.BlocksFault.{BlocksFault}
 use Rattle.fit_from_messages.specs.declared.fault.BlocksFault.TheVariants as blocks
-use Rattle.fit_from_messages.specs.FromBlocks.{FromBlocks, FromFault}
+use Rattle.fit_from_messages.specs.FromBlocks.{FromBlocks, FromBlocksFault}
 use Rattle.fit_c.specs.declared.answer.FitAnswer.{FitAnswer}
 
 -- the number of a reason, as `gazhdor.h` has it
@@ -134,4 +134,4 @@ IsTextRead text a =
 abbrev pub AreBlocksRead : List ℕ → FitAnswer → Type 0
 AreBlocksRead bytes a =
     (r : Result (Unit {0}) BlocksFault) × (sink : Channel) × (sink.before ≡ Some []) × (a ≡ blocks_answer r) × OnOk r (FromBlocks bytes sink)
-    × IfErr r (FromFault bytes sink)
+    × IfErr r (FromBlocksFault bytes sink)

@@ -1,1 +1,21 @@
 mod KnownReadings
+pub mod OneReading
+pub mod ProfileNames
+pub mod SmallSizes
+pub mod ReadBack
+pub mod ColumnsBack
+pub mod DefinitionBack
+pub mod MessageBack
+pub mod HeaderBack
+pub mod EventsBack
+pub mod ChainBack
+mod ReadNumbers
+mod CutEntries
+pub mod SameSayings
+mod DefinitionFacts
+pub mod OneFinding
+mod PlacedItems
+mod MessageFacts
+mod SoundFiles
+mod DefinedSlots
+mod HeaderForms

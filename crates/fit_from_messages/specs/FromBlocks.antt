@@ -37,11 +37,11 @@ AreWrong blocks (Encode (encode.ZeroIsSum file)) = AreUnwritable blocks (encode.
 AreWrong blocks _ = ⊥
 
 -- Why blocks aren't written as a chain: something is wrong with them, memory was refused, or the sink failed in the bytes of the chain.
-abbrev pub FromFault : List ℕ → Channel → BlocksFault → Type 0
-FromFault blocks sink NoMemory = Unit {0}
-FromFault blocks sink (Write written) =
+abbrev pub FromBlocksFault : List ℕ → Channel → BlocksFault → Type 0
+FromBlocksFault blocks sink NoMemory = Unit {0}
+FromBlocksFault blocks sink (Write written) =
     (files : List (FitFile Global)) × (bytes : List ℕ) × AreBlocksOf blocks files bytes × StopsAt sink.before sink.after sink.failed bytes written
-FromFault blocks sink fault = AreWrong blocks fault
+FromBlocksFault blocks sink fault = AreWrong blocks fault
 
 -- The answer where the blocks are those of the chain with these bytes: they were written; or memory was refused, or the sink failed.
 abbrev pub FromBlocksOf : List ℕ → Channel → Result (Unit {0}) BlocksFault → Type 0
@@ -51,6 +51,6 @@ FromBlocksOf bytes sink (Err (Write written)) = StopsAt sink.before sink.after s
 FromBlocksOf bytes sink (Err other) = ⊥
 
 -- of every fault but one of the sink
-abbrev pub UnlessWritten : BlocksFault → Type 0 → Type 0
-UnlessWritten (Write written) P = Unit {0}
-UnlessWritten _ P = P
+abbrev pub UnlessStopped : BlocksFault → Type 0 → Type 0
+UnlessStopped (Write written) P = Unit {0}
+UnlessStopped _ P = P

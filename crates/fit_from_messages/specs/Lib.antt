@@ -1,3 +1,5 @@
 pub mod Parts
 pub mod SaysChain
 pub mod FromBlocks
+pub mod Laws
+pub mod inner

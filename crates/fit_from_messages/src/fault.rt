@@ -55,5 +55,7 @@ pub enum BlocksFault {
     NoMemory,
     /// The sink failed after that many bytes.
     #[error("write fault after {written} bytes")]
-    Write { written: u64 },
+    Write {
+        written: u64,
+    },
 }

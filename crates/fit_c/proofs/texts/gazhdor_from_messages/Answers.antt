@@ -15,7 +15,7 @@ returns-clause-read c =
       c.memory-sink.ensures.held,
       c.answer_for_blocks.ensures,
       c.from_messages-answered.ensures.ok,
-      c.from_messages-answered.ensures.fault,
+      c.from_messages-answered.ensures.refused,
     )
 
 pub returns-clause-good : goal.returns-clause-good

@@ -1,0 +1,48 @@
+-- Chains of which some blocks have come. No public contract names these.
+use Rattle.std.specs.Prelude.{◌≡◌, ◌+◌, ◌<◌, ◌≤◌, ℕ, List, ◌++◌, length, Option, Some, None, option_map}
+use Rattle.std.specs.Global.{Global}
+use Rattle.std.specs.List.{AllByRecursion}
+use Rattle.fit_frame.specs.Header.{FormFits}
+use Rattle.fit_record.specs.declared.file.FitFile.{FitFile}
+use Rattle.fit_record.specs.Environment.{empty_environment}
+use Rattle.fit_record.specs.Files.{chain_limit}
+use Rattle.fit_record.specs.Records.{AllFit}
+use Rattle.fit_from_messages.specs.SaysChain.{IsRefusedBlock, Said, Say, joined_blocks, nothing_said}
+use Rattle.fit_from_messages.specs.declared.chain.Chain.{Chain}
+use Rattle.fit_from_messages.specs.declared.fault.BlocksFault.{BlocksFault}
+use Rattle.fit_from_messages.specs.declared.fault.BlocksFault.TheVariants.{Block, NoMemory}
+use Rattle.fit_from_messages.specs.declared.file.OpenFile.{OpenFile}
+use Rattle.fit_from_messages.specs.inner.OpenFiles.{IsSoundFile, begun}
+
+-- what blocks have said
+abbrev pub said : Chain → Said
+said c = record { files = c.files; current = option_map begun c.current }
+
+-- a file that blocks can say: nothing but the length of its data, or zeros for a sum of 0, can be wrong with it
+pub record IsSaidFile (f : FitFile Global) : Type 0 where
+  pub form : FormFits f.header
+  pub fit : AllFit empty_environment f.records
+
+-- there may be one more file
+abbrev pub IsSoundCurrent : ℕ → Option OpenFile → Type 0
+IsSoundCurrent count None = count ≤ chain_limit
+IsSoundCurrent count (Some f) = (count < chain_limit) × IsSoundFile f
+
+pub record IsSoundChain (c : Chain) : Type 0 where
+  pub files : AllByRecursion IsSaidFile c.files
+  pub current : IsSoundCurrent (length c.files) c.current
+
+-- That many blocks have come, and these bytes are left of all.
+pub record HasSaid (bytes rest : List ℕ) (count : ℕ) (c : Chain) : Type 0 where
+  pub blocks : List (List ℕ)
+  pub are_joined : bytes ≡ joined_blocks blocks ++ rest
+  pub say : Say nothing_said blocks (said c)
+  pub counted : count ≡ length blocks
+  pub few : count + length rest ≤ length bytes
+  pub sound : IsSoundChain c
+
+-- A block can't stand where it is, or memory was refused.
+abbrev pub IsReadFault : List ℕ → BlocksFault → Type 0
+IsReadFault bytes (Block number place reason) = IsRefusedBlock bytes number place reason
+IsReadFault bytes NoMemory = Unit {0}
+IsReadFault bytes _ = ⊥
