@@ -111,4 +111,4 @@ blocks_say_chain files bytes are chain =
     }
 
 pub blocks_come_back : BlocksComeBack
-blocks_come_back files bytes are chain = record { says = blocks_say_chain files bytes are chain; are_bytes = are; chain = chain }
+blocks_come_back files bytes are chain = record { says = blocks_say_chain files bytes are chain; chain = chain }

@@ -1,12 +1,12 @@
 -- What the entries of a definition's block say fits the definition that is read of it.
-use Rattle.std.proofs.Common.{◌≡◌, ◌∙◌, ℕ, zero, suc, ◌+◌, ◌*◌, ◌<◌, ◌≤◌, ◌^◌, Bool, true, false, cond, List, [], ◌∷◌, ◌++◌, length, map, take, drop, get_or, refl, sym, ap, subst, arith}
+use Rattle.std.proofs.Common.{◌≡◌, ◌∙◌, ℕ, zero, suc, ◌+◌, ◌<◌, ◌≤◌, Bool, true, false, cond, List, [], ◌∷◌, ◌++◌, length, map, drop, get_or, refl, sym, ap, subst, arith}
 use Rattle.std.proofs.Math.Bool.{and-false}
 use Rattle.std.proofs.Math.Seq.{drop-append_seam}
 use Rattle.std.proofs.lemmas.Bool.{and_parts, and_from, eqb-true}
 use Rattle.std.proofs.lemmas.List.{length-append, length-map, length-take, length-drop, map-append, take-append-drop}
 use Rattle.std.proofs.lemmas.Option.{slice_get-get_or}
 use Rattle.std.specs.Global.{Global}
-use Rattle.std.specs.Prelude.{◌==◌, ◌&&◌, nat_le, nat_lt, slice_get, slice_set, sum_by, zip, Option, Some, None}
+use Rattle.std.specs.Prelude.{◌==◌, ◌&&◌, nat_le, slice_get, slice_set, sum_by, zip, Some, None}
 use Rattle.std.specs.List.{list_all}
 use Rattle.fit_base.specs.BaseTypes.{item_width}
 use Rattle.fit_base.specs.Numbers.{IsBytes}
@@ -29,7 +29,7 @@ use Rattle.fit_from_messages.specs.Parts.{block_entries, byte_at, counts_stand, 
 use Rattle.fit_from_messages.specs.SaysChain.{Begun, known_to, why_no_definition}
 use Rattle.fit_from_messages.specs.inner.Cutting.{is_small, left_of, widths_fit}
 use Rattle.fit_from_messages.specs.inner.Definitions.{IsReadable}
-use Rattle.fit_from_messages.specs.inner.Slots.{SlotsFit, slot_size}
+use Rattle.fit_from_messages.specs.inner.Slots.{SlotsFit}
 
 -- ---- the entries
 

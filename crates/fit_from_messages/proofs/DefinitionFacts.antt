@@ -1,10 +1,10 @@
 -- Blocks of definitions as they are read.
-use Rattle.std.proofs.Common.{◌≡◌, ℕ, Bool, true, false, List, [], ◌∷◌, ◌++◌, refl, sym, ap, ◌∙◌, take, drop}
+use Rattle.std.proofs.Common.{◌≡◌, ℕ, Bool, true, false, List, [], ◌∷◌, ◌++◌, refl, sym, ap, ◌∙◌}
 use Rattle.std.proofs.lemmas.Bool.{true≢false}
 use Rattle.std.proofs.Math.Bool.{and-false}
 use Rattle.std.proofs.lemmas.List.{map-append, take-append-drop}
 use Rattle.std.specs.Global.{Global}
-use Rattle.std.specs.Prelude.{◌&&◌, ◌==◌, map, nat_lt, Option, Some}
+use Rattle.std.specs.Prelude.{◌&&◌, ◌==◌, map, nat_lt, Some}
 use Rattle.std.specs.List.{list_all}
 use Rattle.fit_base.specs.BaseTypes.{item_width}
 use Rattle.fit_record.specs.Environment.{Environment, dev_code}

@@ -19,3 +19,5 @@ mod MessageFacts
 mod SoundFiles
 mod DefinedSlots
 mod HeaderForms
+mod ReadChains
+mod WrittenBlocks

@@ -3,20 +3,19 @@ use Rattle.std.proofs.Common.{◌≡◌, ◌∙◌, ◌⊎◌, ℕ, zero, suc, �
 use Rattle.std.proofs.Math.Nat.{mul_comm, suc-mul}
 use Rattle.std.proofs.Math.Seq.{take-append_seam}
 use Rattle.std.proofs.lemmas.Bool.{and_parts, or_cases, eqb-true}
-use Rattle.std.proofs.lemmas.List.{append-nil, length-map, length-take-le, length-drop, take-append-drop}
+use Rattle.std.proofs.lemmas.List.{length-map, length-take-le, length-drop, take-append-drop}
 use Rattle.std.proofs.lemmas.List.Folds.{flat_map-map}
 use Rattle.std.proofs.lemmas.Grind.{flat_map-append}
 use Rattle.std.proofs.lemmas.List.Sums.{sum_by-cons}
 use Rattle.std.specs.Global.{Global}
 use Rattle.std.specs.List.{AllByRecursion, list_all}
-use Rattle.std.specs.Prelude.{◌==◌, ◌||◌, ◌&&◌, nat_le, sum_by, IsSomeAnd, Option, Some, option_map, unwrap_or}
+use Rattle.std.specs.Prelude.{◌==◌, ◌||◌, ◌&&◌, sum_by, IsSomeAnd, Option, Some, option_map, unwrap_or}
 use Rattle.fit_base.proofs.Bytes.{found_passes}
 use Rattle.fit_base.proofs.ByteLists.{IsBytes-drop, IsBytes-take}
 use Rattle.fit_base.proofs.NumberLaws.{number-below}
 use Rattle.fit_base.specs.BaseTypes.{BaseType, base_type, base_types, byte, item_width}
 use Rattle.fit_base.specs.Fields.{HasShape, items_bytes}
 use Rattle.fit_base.specs.Numbers.{IsBytes, number}
-use Rattle.fit_base.specs.declared.items.Items.{Items}
 use Rattle.fit_base.specs.declared.number.Order.{Order}
 use Rattle.fit_base.specs.declared.number.Order.TheVariants.{Little}
 use Rattle.fit_record.specs.ReadMessages.{numbers_of}

@@ -1,5 +1,5 @@
 -- Numbers that stand in a block.
-use Rattle.std.proofs.Common.{◌≡◌, ℕ, ◌+◌, ◌<◌, ◌≤◌, ◌^◌, List, length, take, drop, subst, arith, length-take-le, length-drop}
+use Rattle.std.proofs.Common.{ℕ, ◌+◌, ◌<◌, ◌≤◌, ◌^◌, List, length, take, drop, subst, arith, length-take-le, length-drop}
 use Rattle.fit_base.specs.Numbers.{IsBytes}
 use Rattle.fit_base.specs.declared.number.Order.TheVariants.{Little}
 use Rattle.fit_base.proofs.ByteLists.{IsBytes-take, IsBytes-drop}

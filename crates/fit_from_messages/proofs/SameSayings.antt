@@ -71,6 +71,6 @@ same_sayings a b files x y =
     sym (all_heard nothing_said whole x.blocks x.say) ∙ all_heard nothing_said whole y.blocks y.say
 
 pub items_come_back : ItemsComeBack
-items_come_back blocks files bytes given =
-    let made = blocks_come_back files bytes given.are_bytes given.chain in
+items_come_back blocks files bytes are given =
+    let made = blocks_come_back files bytes are given.chain in
     (made, same_sayings blocks _ files given.says made.says)

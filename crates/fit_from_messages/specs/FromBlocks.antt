@@ -2,7 +2,6 @@
 use Rattle.std.specs.Prelude.{◌≡◌, ℕ, false, List, Result, Ok, Err}
 use Rattle.std.specs.Global.{Global}
 use Rattle.std.specs.Io.KnownBytes.{Appends}
-use Rattle.fit_base.specs.Numbers.{IsBytes}
 use Rattle.fit_record.specs.declared.file.FitFile.{FitFile}
 use Rattle.fit_record.specs.Files.{IsChain, chain_limit}
 use Rattle.fit_encode.specs.declared.fault.EncodeFault.{EncodeFault}
@@ -13,10 +12,15 @@ use Rattle.fit_from_messages.specs.declared.fault.BlocksFault.{BlocksFault}
 use Rattle.fit_from_messages.specs.declared.fault.BlocksFault.TheVariants.{Block, Encode, NoMemory, Write}
 use Rattle.fit_from_messages.specs.SaysChain.{IsRefusedBlock, SaysChain}
 
+-- the fault of files that blocks say and that weren't written
+abbrev pub written_fault : EncodeFault → BlocksFault
+written_fault encode.NoMemory = NoMemory
+written_fault (encode.Write written) = Write written
+written_fault fault = Encode fault
+
 -- The blocks are those of the chain with these bytes.
 pub record AreBlocksOf (blocks : List ℕ) (files : List (FitFile Global)) (bytes : List ℕ) : Type 0 where
   pub says : SaysChain blocks files
-  pub are_bytes : IsBytes bytes
   pub chain : IsChain chain_limit files bytes
 
 -- The blocks are those of a chain, and its bytes were put after what the sink held. The sink hasn't failed.

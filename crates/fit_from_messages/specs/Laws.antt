@@ -58,6 +58,6 @@ sayings said (block ∷ blocks) = says_in said.current block ∷ sayings (after 
 
 -- Blocks that say a chain, and those that a report makes of this chain, are as many, and say the same, block by block.
 abbrev pub ItemsComeBack : Type 0
-ItemsComeBack = (blocks : List ℕ) (files : List (FitFile Global)) (bytes : List ℕ) (given : AreBlocksOf blocks files bytes)
+ItemsComeBack = (blocks : List ℕ) (files : List (FitFile Global)) (bytes : List ℕ) → IsBytes bytes → (given : AreBlocksOf blocks files bytes)
     → (made : AreBlocksOf (chain_blocks files) files bytes)
     × (sayings nothing_said given.says.blocks ≡ sayings nothing_said made.says.blocks)

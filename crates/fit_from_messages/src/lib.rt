@@ -17,3 +17,4 @@ mod place;
 mod slot;
 
 pub use fault::{BlockReason, BlocksFault};
+pub use from::from_messages;

@@ -7,10 +7,12 @@ use Rattle.fit_record.specs.declared.file.FitFile.{FitFile}
 use Rattle.fit_record.specs.Environment.{empty_environment}
 use Rattle.fit_record.specs.Files.{chain_limit}
 use Rattle.fit_record.specs.Records.{AllFit}
-use Rattle.fit_from_messages.specs.SaysChain.{IsRefusedBlock, Said, Say, joined_blocks, nothing_said}
+use Rattle.fit_from_messages.specs.SaysChain.{IsRefusedBlock, Said, Say, SaysChain, joined_blocks, nothing_said}
 use Rattle.fit_from_messages.specs.declared.chain.Chain.{Chain}
 use Rattle.fit_from_messages.specs.declared.fault.BlocksFault.{BlocksFault}
 use Rattle.fit_from_messages.specs.declared.fault.BlocksFault.TheVariants.{Block, NoMemory}
+use Rattle.fit_from_messages.specs.declared.misfit.Misfit.{Misfit}
+use Rattle.fit_from_messages.specs.declared.misfit.Misfit.TheVariants as misfit
 use Rattle.fit_from_messages.specs.declared.file.OpenFile.{OpenFile}
 use Rattle.fit_from_messages.specs.inner.OpenFiles.{IsSoundFile, begun}
 
@@ -46,3 +48,14 @@ abbrev pub IsReadFault : List ℕ → BlocksFault → Type 0
 IsReadFault bytes (Block number place reason) = IsRefusedBlock bytes number place reason
 IsReadFault bytes NoMemory = Unit {0}
 IsReadFault bytes _ = ⊥
+
+-- the fault at the block of this number and place
+abbrev pub fault_at : ℕ → ℕ → Misfit → BlocksFault
+fault_at number place (misfit.Block why) = Block number place why
+fault_at number place misfit.NoMemory = NoMemory
+
+-- The bytes are blocks that say these files, which can be written but for the length of their data and zeros for sums of 0.
+pub record AreSaid (bytes : List ℕ) (files : List (FitFile Global)) : Type 0 where
+  pub says : SaysChain bytes files
+  pub each : AllByRecursion IsSaidFile files
+  pub few : length files ≤ chain_limit

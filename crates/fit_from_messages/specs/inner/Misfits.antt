@@ -1,5 +1,5 @@
 -- Why a block isn't taken. No public contract names these.
-use Rattle.std.specs.Prelude.{◌≡◌, Bool, true, false, Option, Some}
+use Rattle.std.specs.Prelude.{◌≡◌, Bool, false, Option, Some}
 use Rattle.fit_from_messages.specs.declared.fault.BlockReason.{BlockReason}
 use Rattle.fit_from_messages.specs.declared.misfit.Misfit.{Misfit}
 use Rattle.fit_from_messages.specs.declared.misfit.Misfit.TheVariants.{Block, NoMemory}

@@ -1,12 +1,11 @@
-use Rattle.std.proofs.Common.{rules, ◌≡◌, ◌∙◌, ◌+◌, ◌++◌, ap, sym, subst, arith, take, drop, length}
-use Rattle.std.proofs.lemmas.Grind.{common_steps}
+use Rattle.std.proofs.Common.{rules, ◌≡◌, ◌∙◌, ◌++◌, ap, subst, arith, take, drop, length}
 use Rattle.std.proofs.lemmas.Result.{err_from_is_err_and}
-use Rattle.std.specs.Prelude.{IfSome, Some, sum_by}
+use Rattle.std.specs.Prelude.{IfSome, Some}
 use Rattle.fit_base.proofs.ByteLists.{slice_is_bytes}
 use Rattle.fit_record.specs.Environment.{defined_at}
 use Rattle.fit_record.specs.Records.{dev_layout, layout, message_size}
 use Rattle.fit_from_messages.specs.Parts.{byte_at}
-use Rattle.fit_from_messages.specs.inner.Slots.{SlotsFit, slot_size}
+use Rattle.fit_from_messages.specs.inner.Slots.{SlotsFit}
 use Rattle.fit_from_messages.proofs.MessageFacts.{all_written, are_slots, known_record, same_size, size_known}
 use Rattle.fit_from_messages.proofs.message.spell_message.Goals as goal
 

@@ -1,4 +1,4 @@
-use Rattle.std.proofs.Common.{rules, arith, ◌≡◌, ◌∙◌, ◌++◌, ap, sym, take}
+use Rattle.std.proofs.Common.{arith, ◌∙◌, ◌++◌, ap, sym, take}
 use Rattle.fit_base.specs.Fields.{items_bytes}
 use Rattle.fit_base.proofs.ByteLists.{slice_is_bytes}
 use Rattle.fit_from_messages.specs.Parts.{items_read}

@@ -2,7 +2,7 @@ use Rattle.std.proofs.Common.{◌≡◌, ◌≤◌, ◌+◌, ◌-◌, ◌*◌, �
 use Rattle.std.proofs.Math.Nat.{suc-mul}
 use Rattle.fit_base.specs.Numbers.{IsBytes}
 use Rattle.fit_base.proofs.ByteLists.{IsBytes-drop}
-use Rattle.fit_from_messages.proofs.PlacedItems.{none_left, number_in_piece, turned_more}
+use Rattle.fit_from_messages.proofs.PlacedItems.{number_in_piece, turned_more}
 use Rattle.fit_from_messages.proofs.place.place_turned.Goals as goal
 
 pub place_big-end-requires-clause-bits : goal.place_big-end-requires-clause-bits

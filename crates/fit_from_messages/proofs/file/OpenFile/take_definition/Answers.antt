@@ -1,12 +1,9 @@
-use Rattle.std.proofs.Common.{rules, ◌≡◌, ◌∙◌, ◌+◌, ◌<◌, ap, sym, subst, refl, length}
+use Rattle.std.proofs.Common.{rules, ◌∙◌, ap, sym, subst, refl}
 use Rattle.std.proofs.lemmas.Result.{err_from_is_err_and}
-use Rattle.std.specs.Global.{Global}
-use Rattle.std.specs.Prelude.{Some, slice_set}
+use Rattle.std.specs.Prelude.{slice_set}
 use Rattle.fit_base.proofs.ByteLists.{slice_is_bytes}
-use Rattle.fit_record.specs.Environment.{defined_at, defined_by, learn}
-use Rattle.fit_record.specs.Records.{DefinitionFits, dev_layout, layout}
-use Rattle.fit_record.specs.declared.message.Record.TheVariants.{Define}
-use Rattle.fit_from_messages.specs.Parts.{byte_at, definition_in, dev_entries, slots_in}
+use Rattle.fit_record.specs.Records.{DefinitionFits}
+use Rattle.fit_from_messages.specs.Parts.{byte_at}
 use Rattle.fit_from_messages.specs.inner.OpenFiles.{begun}
 use Rattle.fit_from_messages.proofs.DefinedSlots.{asked, definition_fits, fails_by, sound_then, stands_by, tested}
 use Rattle.fit_from_messages.proofs.file.OpenFile.take_definition.Goals as goal

@@ -1,10 +1,10 @@
-use Rattle.std.proofs.Common.{rules, ◌≡◌, ◌∙◌, [], ◌∷◌, ◌++◌, ap, sym, subst, refl, List}
+use Rattle.std.proofs.Common.{rules, ap, sym, subst, refl, List}
 use Rattle.std.proofs.lemmas.Result.{err_from_is_err_and}
 use Rattle.std.specs.Global.{Global}
 use Rattle.fit_record.specs.Records.{IsRecord}
 use Rattle.fit_record.specs.declared.message.Record.{Record}
 use Rattle.fit_record.specs.declared.message.Record.TheVariants.{Values as Data}
-use Rattle.fit_from_messages.specs.SaysChain.{Begun, message_said}
+use Rattle.fit_from_messages.specs.SaysChain.{message_said}
 use Rattle.fit_from_messages.specs.inner.OpenFiles.{begun}
 use Rattle.fit_from_messages.proofs.SoundFiles.{sound_message}
 use Rattle.fit_from_messages.proofs.file.OpenFile.take_message.Goals as goal
