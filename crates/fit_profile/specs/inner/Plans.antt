@@ -1,5 +1,6 @@
 -- What is found out once of the messages of a definition. No public contract names these definitions.
-use Rattle.std.specs.Prelude.{◌≡◌, ◌==◌, ◌≤◌, ◌+◌, ℕ, false, true, List, Option, Some, None, IfSome, IsSomeAnd, drop, length, option_and_then, slice_index_or, take}
+use Rattle.std.specs.Prelude.{◌≡◌, ◌==◌, ◌≤◌, ◌+◌, ℕ, false, true, List, Option, Some, None, IfSome, IsSomeAnd, drop, length, option_and_then}
+use Rattle.std.specs.Prelude.{slice_index_or, take}
 use Rattle.std.specs.Global.{Global}
 use Rattle.fit_base.specs.Numbers.{number}
 use Rattle.fit_base.specs.declared.items.Items.{Items}
