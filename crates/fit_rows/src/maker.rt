@@ -57,6 +57,20 @@ impl RowMaker {
         false
     }
 
+    /// Keeps the rows of the definition of this local message type after the records of a stream.
+    #[inline(never)]
+    fn keep_anew(&mut self, stream: &Stream, local: u8, defined: &Defined) -> Result<(), AllocError>
+        requires place { defined_at (known stream.now) local ≡ Some defined.now }
+        requires sound { IsSound defined.now }
+        requires current { AreCurrent message_key self.old.templates stream.now }
+        ensures kept { OnOk result (slice_get self.new.templates.items.items local
+            ≡ Some (Some (message_key stream.now local defined.now))) }
+        ensures current { AreCurrent message_key self.new.templates stream.now }
+    {
+        let template = Template::new(&mut self.tools.pen, stream, local, defined)?;
+        self.templates.keep(local, template)
+    }
+
     /// Keeps the rows of the definition of this local message type after the records of a stream, where they aren't kept.
     #[inline(never)]
     fn renew(&mut self, stream: &Stream, local: u8, defined: &Defined) -> Result<(), AllocError>
@@ -71,8 +85,7 @@ impl RowMaker {
             note(&mut self.templates.current, local, true);
             return Ok(());
         }
-        let template = Template::new(&mut self.tools.pen, stream, local, defined)?;
-        self.templates.keep(local, template)
+        self.keep_anew(stream, local, defined)
     }
 
     /// Keeps the rows of the definition of this local message type after the records of a stream, where it isn't known that they

@@ -89,7 +89,7 @@ fn likely_decimal(form: &NumberForm, word: u64, bits: u32, text: &[u8]) -> Optio
 /// A number in units of the last decimal, over the factor of its form.
 #[inline(always)]
 fn over_factor(number: u64, factor: u32) -> u64 {
-    if factor == 1 {
+    if factor < 2 {
         return number;
     }
     match factor {

@@ -1,14 +1,8 @@
-use Rattle.fit_rows.proofs.Common.{refl, subst, Renews, message_key}
+use Rattle.fit_rows.proofs.Common.{refl, message_key}
 use Rattle.fit_texts.proofs.CurrentFacts.{noted, renewed}
 use Rattle.fit_texts.specs.MessageKeys.{MessageKey}
 use Rattle.fit_texts.specs.declared.kept.ByLocal.{ByLocal}
 use Rattle.fit_rows.proofs.maker.RowMaker.renew.Goals as goal
-
-pub returns-clause-current : goal.returns-clause-current
-returns-clause-current c =
-    let kept = c.args.self.now.templates in
-    renewed message_key kept c.keep.new.self c.args.stream.now c.args.local c.args.defined.now c.requires.place c.requires.current
-    (subst (Renews kept c.keep.new.self c.args.local) c.in_ok-template.ensures c.keep.ensures.current)
 
 pub returns-then-keeps-clause-kept : goal.returns-then-keeps-clause-kept
 returns-then-keeps-clause-kept c = c.keeps.ensures c.if-keeps.true
