@@ -17,6 +17,8 @@ import types
 import unittest
 import zipfile
 
+from python_types import TYPED, WRONG
+
 RIDE = os.path.abspath("examples/ride.fit")
 MACHINE = f"{platform.machine()}-linux"
 LIBRARY = f"release/{MACHINE}/libgazhdor.so"
@@ -267,59 +269,6 @@ except ImportError as error:
         done = run("-m", "gazhdor", "check", RIDE, env=dict(os.environ, PYTHONPATH=TREE, GAZHDOR_LIBRARY="none.so"))
         self.assertEqual((done.returncode, done.stdout, done.stderr.count(b"\n")), (1, b"", 1))
         self.assertIn(b"(LibraryMissing: none.so isn't there, which GAZHDOR_LIBRARY names)", done.stderr)
-
-
-TYPED = """
-import datetime, gzip, io, pathlib
-from typing import Any, BinaryIO, Dict, Iterator, List, Optional, Tuple, Union
-import gazhdor
-
-def use(upload: BinaryIO, opened: io.BufferedReader) -> None:
-    sources: List[gazhdor.Source] = ["a", pathlib.Path("a"), b"a", bytearray(), memoryview(b""), io.BytesIO(), gzip.open("a"), upload, opened]
-    answer: gazhdor.Answer = gazhdor.check(sources[0])
-    found: Tuple[bool, int, Optional[int], Optional[str], Optional[int]] = (answer.good, answer.files, answer.place, answer.reason, answer.row)
-    for row in gazhdor.table(upload, partial=True):
-        when: Union[datetime.datetime, str, None] = row.timestamp
-        beats: Optional[float] = row.heart_rate
-    rows: Iterator[Tuple[int, Iterator[gazhdor.Row]]] = gazhdor.files(opened)
-    text: str = gazhdor.table_text(sources[1]) + gazhdor.to_csv(upload) + gazhdor.show(opened)
-    back: bytes = gazhdor.from_csv(text)
-    for message in gazhdor.messages(upload, only=["session", 20], partial=True):
-        time: Union[datetime.datetime, str, None] = message.time
-        seconds: float = message["total_elapsed_time"] + message[0, 2] + message.get(3, 0)
-        told: Tuple[Optional[str], Optional[float], Optional[int], int] = (message.name, message.speed, message.seconds, message.place)
-        for field in message.fields:
-            value: gazhdor.Value = field.value
-            of: Tuple[Optional[str], int, Optional[int], Optional[str]] = (field.name, field.number, field.developer, message.unit("a"))
-    lists: Dict[gazhdor.Key, List[Any]] = gazhdor.lists(opened, "record", ["heart_rate", 3, (0, 1)])
-    arrays: Dict[gazhdor.Key, Any] = gazhdor.columns(opened, 20, partial=True)
-    with gazhdor.Stream("table") as stream:
-        piecewise: str = stream.feed(b"") + stream.feed(bytearray()) + stream.finish()
-    laps: List[gazhdor.Message] = gazhdor.Stream("messages", only="lap").feed(memoryview(b""))
-    blocks: bytes = gazhdor.Stream("blocks").finish()
-    ended: int = stream.files
-    try:
-        gazhdor.check(gzip.open("a"))
-    except gazhdor.ReadFailed as error:
-        count: int = error.count
-    except gazhdor.FitError as fault:
-        place: Optional[int] = fault.place
-    again: bytes = gazhdor.from_blocks(gazhdor.blocks(opened))
-    with gazhdor.Writer(upload, names={140: "physiology"}) as out:
-        dev: gazhdor.DeveloperField = out.describe("Form power", "watts", "uint16", native=("record", 7))
-        record: gazhdor.Definition = out.define("record", ["timestamp", 3, dev, (200, "uint16"), (201, "string", 16)], local=1)
-        record.write({dev: 5, 3: None}, timestamp=datetime.datetime.now(datetime.timezone.utc))
-        record.columns({"timestamp": [1, 2]}, heart_rate=[None, 1.5])
-        out.write("file_id", type=4)
-        for event in gazhdor.messages(upload, everything=True):
-            if isinstance(event, gazhdor.DefinitionMessage):
-                sizes: List[int] = [field.size for field in event.fields]
-            out.copy(event.replace(heart_rate=1).emptied(lambda field: field.base == 0x85) if isinstance(event, gazhdor.Message) else event)
-"""
-WRONG = ("gazhdor.check(io.StringIO())", "gazhdor.check(5)", "gazhdor.from_csv(pathlib.Path())", "gazhdor.table('a').place", "row: str = gazhdor.check('a').row")
-WRONG += ("gazhdor.messages('a', only=1.5)", "gazhdor.lists('a', 'record', [1.5])", "next(gazhdor.messages('a')).place = 5", "gazhdor.columns('a')")
-WRONG += ("gazhdor.Writer(5)", "gazhdor.from_blocks('a')", "gazhdor.messages('a', only='lap', everything=True)", "gazhdor.Writer('a').copy(5)", "gazhdor.Writer(io.StringIO())")
-WRONG += ("gazhdor.Stream('rows')", "gazhdor.Stream('show', only=20)", "gazhdor.Stream('table').feed('a')", "number: int = gazhdor.Stream('table').finish()")
 
 
 class Types(unittest.TestCase):

@@ -1,173 +1,23 @@
-"""Whether files that are written from values are those that the FIT protocol has for them, and whether what is read from recordings is written
-back through values to the same bytes."""
+"""Whether files that are written from values are those that the FIT protocol has for them."""
 import datetime
 import decimal
 import fractions
-import io
-import os
 import random
-import shutil
 import struct
-import subprocess
-import sys
 import unittest
 
 import gazhdor
-from python_fits import BYTE, DESCRIBE, FLOAT32, FLOAT64, SINT16, SINT32, SINT64, SMALL, STRING, UINT8, UINT16, UINT32, UINT64, any_file, checksum, define, describe, fit, packed
+from python_fits import DESCRIBE, FLOAT32, FLOAT64, SINT16, SINT32, SINT64, UINT8, UINT16, UINT32, UINT64, define, describe, fit, packed
+from python_made import one, through_values, whole, written
 
 try:
     import numpy
 except ImportError:
     numpy = None
 
-WORK = sys.argv.pop()
-RIDE = "examples/ride.fit"
 UTC = datetime.timezone.utc
 START = datetime.datetime(2026, 5, 17, 7, 30, tzinfo=UTC)
 SECONDS = int((START - datetime.datetime(1989, 12, 31, tzinfo=UTC)).total_seconds())
-KINDS = ("plain", "developer", "compressed", "turns", "definitions", "strings", "interleaved", "small")
-
-
-def written(*steps, **how):
-    """The bytes of a file that is written by calls of a writer."""
-    sink = io.BytesIO()
-    with gazhdor.Writer(sink, **how) as out:
-        for step in steps:
-            step(out)
-    return sink.getvalue()
-
-
-def whole(*records, profile=21158):
-    """A file as the writer begins one: version 2.0 of the protocol."""
-    data = b"".join(records)
-    head = struct.pack("<BBHI4s", 14, 32, profile, len(data), b".FIT")
-    head += checksum(head)
-    return head + data + checksum(head + data)
-
-
-def one(message, values, fields=None, **how):
-    """The data section of a file with one message, but for its definition message: the bytes of its fields."""
-
-    def step(out):
-        out.define(message, fields or list(values), local=0).write(values)
-
-    data = written(step, **how)
-    (field,) = [event for event in gazhdor.messages(data, everything=True) if isinstance(event, gazhdor.Message)]
-    return data[field.place + 1 : -2]
-
-
-def through_values(data, names=None):
-    """The file that is written from the values of all that a file has."""
-    sink = io.BytesIO()
-    definitions = {}
-    with gazhdor.Writer(sink, names) as out:
-        for event in gazhdor.messages(data, everything=True, names=names):
-            if isinstance(event, gazhdor.FileHeader):
-                out.file(event.protocol, event.profile, event.size, event.checksum, event.more)
-            elif isinstance(event, gazhdor.DefinitionMessage):
-                made = out.define(event.number, event.fields, event.local, event.big, event.reserved, event.says_developers)
-                made.begin()
-                definitions[event.local] = made
-            elif isinstance(event, gazhdor.Message):
-                definitions[event.local].write({**dict(event), ".time_offset": event.time_offset})
-    return sink.getvalue()
-
-
-def copied(data, change=lambda message: message):
-    sink = io.BytesIO()
-    with gazhdor.Writer(sink) as out:
-        for event in gazhdor.messages(data, everything=True):
-            out.copy(change(event) if isinstance(event, gazhdor.Message) else event)
-    return sink.getvalue()
-
-
-def recordings():
-    if not shutil.which("cc"):
-        raise unittest.SkipTest("there is no cc")
-    recording = os.path.join(WORK, "recording")
-    subprocess.run(["cc", "-O1", "-o", recording, "bench/recording.c"], check=True)
-    for kind in KINDS:
-        subprocess.run([recording, kind, "40k", recording + ".fit"], check=True)
-        with open(recording + ".fit", "rb") as file:
-            yield kind, file.read()
-
-
-class BothWays(unittest.TestCase):
-    def test_ride(self):
-        with open(RIDE, "rb") as file:
-            data = file.read()
-        for chain in (data, 2 * data, SMALL, SMALL + data):
-            self.assertEqual(through_values(chain), chain)
-            self.assertEqual(copied(chain), chain)
-
-    def test_recordings(self):
-        """Each kind of recording, through its values and back to the same bytes."""
-        for kind, data in recordings():
-            with self.subTest(kind):
-                self.assertEqual(through_values(data), data)
-                self.assertEqual(through_values(data, gazhdor.EXTRA), data)
-                self.assertEqual(copied(data), data)
-
-    def test_random(self):
-        """Copies of files of random definitions and data have their bytes."""
-        r = random.Random(3)
-        for _ in range(80):
-            data = any_file(r)
-            self.assertEqual(copied(data), data)
-
-    def test_alone(self):
-        """Messages that are copied without their definition messages bring these along."""
-        r = random.Random(4)
-        for _ in range(40):
-            messages = list(gazhdor.messages(any_file(r)))
-            again = list(gazhdor.messages(written(*(lambda out, m=m: out.copy(m) for m in messages)))) if messages else []
-            told = [[(repr(m.raw), m.developer, m.number) for m in message.fields] for message in messages]
-            self.assertEqual([[(repr(m.raw), m.developer, m.number) for m in message.fields] for message in again], told)
-
-
-def raws(message):
-    return message.number, [(field.number, field.developer, repr(field.raw)) for field in message.fields]
-
-
-class Mixed(unittest.TestCase):
-    def kept(self, message):
-        """What has to come back of a message that is copied; the time of a compressed header may become a timestamp."""
-        number, fields = raws(message)
-        return number, [field for field in fields if field[0] != 253 or field[1] is not None], message.time
-
-    def test_all_at_once(self):
-        """Messages of several files, with their definition messages and without, some left out, between messages that are written from values by
-        definitions of all local message types."""
-        r = random.Random(9)
-        for _ in range(60):
-            sources = [any_file(r) for _ in range(r.randrange(1, 4))]
-            readers = [gazhdor.messages(source, everything=True) for source in sources]
-            sink, wanted, own = io.BytesIO(), [], []
-            with gazhdor.Writer(sink) as out:
-                out.file()
-                event = None
-                reader = readers.pop()
-                while reader:
-                    event = next(reader, None)
-                    if event is None:
-                        reader = readers.pop() if readers else None
-                        out.file()
-                        own = []
-                    elif isinstance(event, gazhdor.Message):
-                        if event.number == 206 or r.random() < 0.6:
-                            out.copy(event)
-                            wanted.append(self.kept(event))
-                    elif isinstance(event, gazhdor.DefinitionMessage) and r.random() < 0.5 and event.number != 206:
-                        out.copy(event)
-                    if r.random() < 0.3:
-                        if len(own) < 20 and r.random() < 0.5:
-                            own.append(out.define(5000 + len(own), [(7, "uint16")], r.choice((None, None, r.randrange(16)))))
-                        if own:
-                            which = r.choice(own)
-                            which.write({7: len(wanted) % 60000})
-                            wanted.append((5000 + own.index(which), [(7, None, repr(len(wanted) % 60000))], None))
-            found = [self.kept(message) for message in gazhdor.messages(sink.getvalue())]
-            self.assertEqual(found, wanted)
 
 
 class Bytes(unittest.TestCase):
@@ -396,6 +246,9 @@ class Fields(unittest.TestCase):
             (lambda out: out.define(2**5000, [3]), ValueError),
             (lambda out: out.define(True, [3]), TypeError),
             (lambda out: out.define("record", "power", local=16), ValueError),
+            (lambda out: out.define("record", "power", local=True), TypeError),
+            (lambda out: out.define("record", "power", reserved=256), ValueError),
+            (lambda out: out.define("record", [out.describe("a")], says_developers=False), ValueError),
             (lambda out: out.copy(5), TypeError),
         ):
             with self.assertRaises(kind):
@@ -493,7 +346,9 @@ class Columns(unittest.TestCase):
         for columns, kind in (({"heart_rate": [1, 2], "power": [1]}, ValueError), ({"heart_rate": "12"}, TypeError), ({"heart_rate": 5}, TypeError), ({"hart_rate": [1]}, gazhdor.UnknownName)):
             with self.assertRaises(kind):
                 written(lambda out: out.define("record", "heart_rate power").columns(columns))
-        for key, column, row in (("heart_rate", [1, 2, 300], 2), ("heart_rate", [1, None, 255], 2), ("power", [1.0, float("inf")], 1), ("altitude", [0.0, 1e300], 1), ("heart_rate", [True], 0), ("heart_rate", [5, "6"], 1), ("timestamp", [START, START.replace(tzinfo=None)], 1)):
+        beats = ([1, 2, 300], 2), ([1, None, 255], 2), ([True], 0), ([5, "6"], 1)
+        others = ("power", [1.0, float("inf")], 1), ("altitude", [0.0, 1e300], 1), ("timestamp", [START, START.replace(tzinfo=None)], 1)
+        for key, column, row in (*(("heart_rate", *column) for column in beats), *others):
             with self.assertRaises(gazhdor.WrongValue) as caught:
                 written(lambda out: out.define("record", [key]).columns({key: column}))
             self.assertEqual((caught.exception.field, caught.exception.row), (key, row))

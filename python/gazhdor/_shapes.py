@@ -104,12 +104,12 @@ class Shapes:
 
     def one(self, spec: Spec) -> Shape:
         if isinstance(spec, FieldDefinition):
-            return Shape(spec.key, base_of(spec.base), _byte("a size", spec.size), _byte("a field", spec.number), spec.developer, self._info(spec.key))
+            return Shape(spec.key, base_of(spec.base), byte("a size", spec.size), byte("a field", spec.number), spec.developer, self._info(spec.key))
         key, told, count = spec, None, None  # type: Any, Any, Any
         if isinstance(spec, tuple) and not isinstance(spec, DeveloperField) and not _is_numbers(spec):
             key, told, count = (*spec, None)[:3]
         shape = self._developer(key, told) or self._field(key, told)
-        return shape if count is None else shape._replace(size=_byte("a size", _byte("a count", count) * shape.base.width))
+        return shape if count is None else shape._replace(size=byte("a size", byte("a count", count) * shape.base.width))
 
     def _info(self, key: Key) -> Optional[Info]:
         developer = self._developers.get(key) if isinstance(key, tuple) else None
@@ -136,7 +136,7 @@ class Shapes:
                 raise UnknownName(f"neither the profile nor the file has in {of} a field", key, [*known, *(name for name in self._developers if isinstance(name, str))])
             number = known[key]
         else:
-            number = _byte("a field", key)
+            number = byte("a field", key)
         base = base_named(told) if told is not None else _usual(self._message, number, self._names)
         if base is None:
             raise ValueError(f"nobody knows the base type of {label(key)}: give it, as ({key!r}, 'uint16')")
@@ -148,7 +148,7 @@ def _is_numbers(spec: Tuple[Any, ...]) -> bool:
     return len(spec) == 2 and all(isinstance(part, int) for part in spec)
 
 
-def _byte(what: str, told: Any) -> int:
+def byte(what: str, told: Any) -> int:
     if isinstance(told, bool) or not isinstance(told, int):
         raise TypeError(f"{what} is a number, and not {type(told).__name__}")
     if not 0 <= told <= 255:

@@ -11,7 +11,7 @@ from ._messages import Message
 from ._names import Told, names_of
 from ._natives import DESCRIPTION, lone_number
 from ._profile import Kind
-from ._shapes import DeveloperField, Shapes, Spec, message_number
+from ._shapes import DeveloperField, Shapes, Spec, byte, message_number
 from ._sinks import Sink, see_sink, write
 from ._values import Definition as Known
 from ._values import Key
@@ -111,9 +111,12 @@ class Writer:
         that is free, and is written before the first message."""
         number = message_number(message, self._names)
         shapes = Shapes(number, self._names, self._developers).all(fields)
-        if local is not None and not 0 <= local < _LOCALS:
+        if local is not None and byte("a local message type", local) >= _LOCALS:
             raise ValueError(f"a local message type is 0 to 15, and not {local}")
-        return Definition(self, number, shapes, Kept(local or 0, big, reserved, says_developers), local)
+        kept = Kept(local or 0, bool(big), byte("a reserved byte", reserved), says_developers)
+        if says_developers is False and any(shape.developer is not None for shape in shapes):
+            raise ValueError("a record header that says that there are no developer fields can't have any")
+        return Definition(self, number, shapes, kept, local)
 
     def write(self, __message: Kind, __values: Optional[Mapping[Any, Any]] = None, **fields: Any) -> None:
         """Writes a message of a name or number with these fields, and its definition message, where none is there for such fields. Fields that
