@@ -81,7 +81,6 @@ pub row_of_other : (file : ℕ) (before : List (Record Global)) (v : Values Glob
 row_of_other file before v p defined other =
     by_definition file before v p defined ∙ ap (row_by file before v p) (ne_eqb p.definition.global 20 other)
 
-
 pub rows_of_other : (file : ℕ) (before : List (Record Global)) (v : Values Global) (o : Option (Defined Global)) → defined_at (known before) v.local ≡ o
     → IsSomeAnd o (λ p. p.definition.global ≡ 20 → ⊥) → table_message_rows file before v ≡ []
 rows_of_other file before v None here other = absurd other
