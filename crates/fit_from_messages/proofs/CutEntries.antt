@@ -1,5 +1,6 @@
 -- Bytes cut into entries, one after another.
-use Rattle.std.proofs.Common.{◌≡◌, ℕ, zero, suc, ◌+◌, ◌<◌, ◌≤◌, Bool, true, false, List, [], ◌∷◌, ◌++◌, length, take, drop, refl, sym, ap, ◌∙◌, subst, arith, append_assoc, length-take, length-drop, ◌⊎◌, inl, inr, ◌≢◌}
+use Rattle.std.proofs.Common.{◌≡◌, ℕ, zero, suc, ◌+◌, ◌<◌, ◌≤◌, Bool, true, false, List, [], ◌∷◌, ◌++◌, length, take, drop, refl, sym, ap, ◌∙◌, subst}
+use Rattle.std.proofs.Common.{arith, append_assoc, length-take, length-drop, ◌⊎◌, inl, inr, ◌≢◌}
 use Rattle.std.proofs.lemmas.Bool.{and_parts}
 use Rattle.std.proofs.lemmas.Bool.Decides.{eqb_tells}
 use Rattle.std.proofs.Math.Dec.{eqb}
@@ -7,7 +8,8 @@ use Rattle.std.proofs.lemmas.List.Sums.{sum_by-cons}
 use Rattle.std.proofs.lemmas.List.{take-append-drop, length-append}
 use Rattle.std.specs.Prelude.{◌&&◌, ◌==◌, map, sum_by, nat_le}
 use Rattle.std.specs.List.{list_all}
-use Rattle.fit_from_messages.specs.Parts.{byte_at, counts_stand, dev_field_count, dev_entries, block_entries, entries_begin, entries_of, entries_stand, entry_stands, field_count, field_entries, number_read}
+use Rattle.fit_from_messages.specs.Parts.{byte_at, counts_stand, dev_field_count, dev_entries, block_entries, entries_begin, entries_of}
+use Rattle.fit_from_messages.specs.Parts.{entries_stand, entry_stands, field_count, field_entries, number_read}
 use Rattle.fit_from_messages.specs.inner.Cutting.{left_of}
 
 -- two tests of numbers that hold together
@@ -98,7 +100,8 @@ nothing_left block within =
     let bytes : List ℕ = drop (entries_begin block) block in
     let all : sum_by length (block_entries block) + length (left_of (field_count block + dev_field_count block) bytes) ≡ length bytes =
     sum_left (field_count block + dev_field_count block) bytes in
-    let left : length (left_of (field_count block + dev_field_count block) bytes) ≡ length (left_of (dev_field_count block) (left_of (field_count block) bytes)) =
+    let left : length (left_of (field_count block + dev_field_count block) bytes) ≡ length (left_of (dev_field_count block) (left_of
+    (field_count block) bytes)) =
     ap length (left_after (field_count block) (dev_field_count block) bytes) in
     let long : entries_begin block + length bytes ≡ length block = omega (arith, within, length-drop (entries_begin block) block) in
     same_test (entries_begin block + sum_by length (block_entries block)) (length block)
@@ -205,7 +208,8 @@ pushed f all xs ys x es others e told more new is =
     ∙ ap (λ k. k ++ map f others) (sym new)
 
 -- a test of each
-pub tested : (p : List ℕ → Bool) (all : Bool) (es others : List (List ℕ)) (e : List ℕ) → all ≡ list_all p es → es ≡ e ∷ others → p e ≡ true → all ≡ list_all p others
+pub tested : (p : List ℕ → Bool) (all : Bool) (es others : List (List ℕ)) (e : List ℕ) → all ≡ list_all p es → es ≡ e ∷ others → p e ≡ true
+    → all ≡ list_all p others
 tested p all es others e told more is = told ∙ ap (list_all p) more ∙ ap (λ b. b && list_all p others) is
 
 pub fails_at : (p : List ℕ → Bool) (all : Bool) (es others : List (List ℕ)) (e : List ℕ) → all ≡ list_all p es → es ≡ e ∷ others → p e ≡ false → all ≡ false
@@ -215,7 +219,8 @@ fails_at p all es others e told more is = told ∙ ap (list_all p) more ∙ ap (
 pub first_stands : (d : ℕ) (es others : List (List ℕ)) (e : List ℕ) → list_all (entry_stands d) es ≡ true → es ≡ e ∷ others → entry_stands d e ≡ true
 first_stands d es others e all more = (and_parts (entry_stands d e) (list_all (entry_stands d) others) (sym (ap (list_all (entry_stands d)) more) ∙ all)).0
 
-pub others_stand : (d : ℕ) (es others : List (List ℕ)) (e : List ℕ) → list_all (entry_stands d) es ≡ true → es ≡ e ∷ others → list_all (entry_stands d) others ≡ true
+pub others_stand : (d : ℕ) (es others : List (List ℕ)) (e : List ℕ) → list_all (entry_stands d) es ≡ true → es ≡ e ∷ others
+    → list_all (entry_stands d) others ≡ true
 others_stand d es others e all more = (and_parts (entry_stands d e) (list_all (entry_stands d) others) (sym (ap (list_all (entry_stands d)) more) ∙ all)).1
 
 -- an entry that stands has 32 bytes

@@ -1,5 +1,6 @@
 -- What the entries of a definition's block say fits the definition that is read of it.
-use Rattle.std.proofs.Common.{◌≡◌, ◌∙◌, ℕ, zero, suc, ◌+◌, ◌<◌, ◌≤◌, Bool, true, false, cond, List, [], ◌∷◌, ◌++◌, length, map, drop, get_or, refl, sym, ap, subst, arith}
+use Rattle.std.proofs.Common.{◌≡◌, ◌∙◌, ℕ, zero, suc, ◌+◌, ◌<◌, ◌≤◌, Bool, true, false, cond, List, [], ◌∷◌, ◌++◌, length, map, drop, get_or, refl}
+use Rattle.std.proofs.Common.{sym, ap, subst, arith}
 use Rattle.std.proofs.Math.Bool.{and-false}
 use Rattle.std.proofs.Math.Seq.{drop-append_seam}
 use Rattle.std.proofs.lemmas.Bool.{and_parts, and_from, eqb-true}
@@ -20,12 +21,14 @@ use Rattle.fit_from_messages.proofs.ReadNumbers.{number_at_below}
 use Rattle.fit_from_messages.specs.declared.fault.BlockReason.TheVariants.{Size}
 use Rattle.fit_from_messages.proofs.SoundFiles.{defined_then, sound_definition}
 use Rattle.fit_from_messages.specs.declared.file.OpenFile.{OpenFile}
-use Rattle.fit_from_messages.specs.inner.OpenFiles.{IsSoundFile, begun}
+use Rattle.fit_from_messages.specs.inner.OpenFiles.{IsGoodFile, begun_file}
 use Rattle.fit_record.specs.declared.definition.MessageDef.{MessageDef}
 use Rattle.fit_record.specs.declared.environment.Defined.{Defined}
 use Rattle.fit_record.specs.declared.message.Record.TheVariants.{Define}
 use Rattle.fit_from_messages.specs.declared.slot.Slot.{Slot}
-use Rattle.fit_from_messages.specs.Parts.{block_entries, byte_at, counts_stand, definition_in, dev_entries, dev_field_count, dev_in, entries_begin, entries_of, entries_stand, entry_size, entry_stands, field_count, field_entries, field_in, number_read, says_dev, size_fits, slot_in, slots_in}
+use Rattle.fit_from_messages.specs.Parts.{block_entries, byte_at, counts_stand, definition_in, dev_entries, dev_field_count, dev_in, entries_begin}
+use Rattle.fit_from_messages.specs.Parts.{entries_of, entries_stand, entry_size, entry_stands, field_count, field_entries, field_in, number_read}
+use Rattle.fit_from_messages.specs.Parts.{says_dev, size_fits, slot_in, slots_in}
 use Rattle.fit_from_messages.specs.SaysChain.{Begun, known_to, why_no_definition}
 use Rattle.fit_from_messages.specs.inner.Cutting.{is_small, left_of, widths_fit}
 use Rattle.fit_from_messages.specs.inner.Definitions.{IsReadable}
@@ -56,7 +59,8 @@ devs_are block counts = go (says_dev block) refl
 
 -- ---- codes and sizes
 
-layout_is : (e : Environment Global) (block : List ℕ) → layout (defined_by e (definition_in block)) ≡ map (λ x. (byte_at 7 x, entry_size x)) (field_entries block)
+layout_is : (e : Environment Global) (block : List ℕ) → layout (defined_by e (definition_in block)) ≡ map (λ x. (byte_at 7 x, entry_size x))
+    (field_entries block)
 layout_is e block = go (field_entries block)
   where
     go : (es : List (List ℕ)) → map {B = ℕ × ℕ} (λ (f : FieldDef). (f.code, f.size)) (map field_in es) ≡ map {B = ℕ × ℕ} (λ x. (byte_at 7 x, entry_size x)) es
@@ -162,7 +166,15 @@ definition_fits block are r =
       local = grind (arith, r.local);
       global = number_at_below 2 32 block are long;
       fields = omega (arith, few, length-map (field_entries block) field_in, length-take (field_count block) (block_entries block));
-      dev_fields = omega (arith, few_dev, ap length (devs_are block counts), length-map (dev_entries block) dev_in, length-drop (field_count block) (block_entries block), all);
+      dev_fields = omega (
+        arith,
+        few_dev,
+        ap length (devs_are block counts),
+        length-map (dev_entries block) dev_in,
+        length-drop (field_count block)
+            (block_entries block),
+        all,
+      );
     }
 
 pub stands_by : (f : Begun) (block : List ℕ) → IsReadable block → list_all (λ x. size_fits (dev_code (known_to f) (dev_in x)) x) (dev_entries block) ≡ true
@@ -192,7 +204,7 @@ fit_more fields slots n f d fits got less is =
 
 -- ---- in a file
 
-module _ (f : OpenFile) (block : List ℕ) (env : Environment Global) (slots : List Slot) (definition : MessageDef Global) (sound : IsSoundFile f)
+module _ (f : OpenFile) (block : List ℕ) (env : Environment Global) (slots : List Slot) (definition : MessageDef Global) (sound : IsGoodFile f)
     (r : IsReadable block) (are : IsBytes block) (read : definition ≡ definition_in block) (learned : env ≡ learn f.env (Define definition))
     (told : slots ≡ slots_in block) where
   defined : defined_at env (byte_at 5 block) ≡ Some (defined_by f.env (definition_in block))
@@ -206,15 +218,15 @@ module _ (f : OpenFile) (block : List ℕ) (env : Environment Global) (slots : L
 
   pub tested : (result : Bool)
       → ((p : Defined Global) → defined_at env (byte_at 5 block) ≡ Some p → result ≡ widths_fit (dev_layout p) (drop (length p.definition.fields) slots))
-      → list_all (λ x. size_fits (dev_code (known_to (begun f)) (dev_in x)) x) (dev_entries block) ≡ result
+      → list_all (λ x. size_fits (dev_code (known_to (begun_file f)) (dev_in x)) x) (dev_entries block) ≡ result
   tested result test =
       let p = defined_by f.env (definition_in block) in
       ap (λ e. list_all (λ x. size_fits (dev_code e (dev_in x)) x) (dev_entries block)) (sym sound.known)
       ∙ sym (test p defined ∙ ap (λ ss. widths_fit (dev_layout p) (drop (length p.definition.fields) ss)) told ∙ dev_sizes f.env block r)
 
-  pub sound_then : (g : OpenFile) → list_all (λ x. size_fits (dev_code (known_to (begun f)) (dev_in x)) x) (dev_entries block) ≡ true
+  pub sound_then : (g : OpenFile) → list_all (λ x. size_fits (dev_code (known_to (begun_file f)) (dev_in x)) x) (dev_entries block) ≡ true
       → g.header ≡ f.header → g.records ≡ f.records ++ Define definition ∷ [] → g.env ≡ env → g.slots ≡ slice_set f.slots (byte_at 5 block) slots
-      → IsSoundFile g
+      → IsGoodFile g
   sound_then g fit header records same set_slots =
       sound_definition f g (definition_in block) (slots_in block) sound (definition_fits block are r) header
       (records ∙ ap (λ d. f.records ++ Define d ∷ []) read) (same ∙ learned ∙ ap (λ d. learn f.env (Define d)) read)

@@ -12,7 +12,8 @@ use Rattle.fit_from_messages.specs.declared.fault.BlockReason.TheVariants.{Size}
 use Rattle.fit_from_messages.specs.declared.misfit.Misfit.{Misfit}
 use Rattle.fit_from_messages.specs.declared.misfit.Misfit.TheVariants.{Block, NoMemory}
 use Rattle.fit_from_messages.specs.declared.slot.Slot.{Slot}
-use Rattle.fit_from_messages.specs.Parts.{byte_at, dev_entries, dev_in, block_entries, entries_stand, entry_size, field_count, field_entries, size_fits, slot_in, slots_in}
+use Rattle.fit_from_messages.specs.Parts.{byte_at, dev_entries, dev_in, block_entries, entries_stand, entry_size, field_count, field_entries}
+use Rattle.fit_from_messages.specs.Parts.{size_fits, slot_in, slots_in}
 use Rattle.fit_from_messages.specs.SaysChain.{Begun, why_no_definition, known_to}
 use Rattle.fit_from_messages.specs.inner.Cutting.{is_small}
 use Rattle.fit_from_messages.specs.inner.Misfits.{FailsBy, IsMisfitBlock}
@@ -24,7 +25,8 @@ large_fails known [] fails = absurd (true≢false fails)
 large_fails known (e ∷ es) fails = go (is_small e) refl (large_fails known es)
   where
     go : (b : Bool) → is_small e ≡ b
-        → (list_all is_small es ≡ false → list_all (λ e. size_fits (dev_code known (dev_in e)) e) es ≡ false) → list_all (λ e. size_fits (dev_code known (dev_in e)) e) (e ∷ es) ≡ false
+        → (list_all is_small es ≡ false → list_all (λ e. size_fits (dev_code known (dev_in e)) e) es ≡ false)
+        → list_all (λ e. size_fits (dev_code known (dev_in e)) e) (e ∷ es) ≡ false
     go true is others =
         ap (λ b. (b && (item_width (dev_code known (dev_in e)) (entry_size e) == byte_at 9 e)) && list_all (λ e. size_fits (dev_code known (dev_in e)) e) es) is
         ∙ ap (λ b. (item_width (dev_code known (dev_in e)) (entry_size e) == byte_at 9 e) && b) (others (sym (ap (λ b. b && list_all is_small es) is) ∙ fails))

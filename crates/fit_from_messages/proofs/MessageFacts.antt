@@ -1,5 +1,6 @@
 -- The message that a block says, and its bytes.
-use Rattle.std.proofs.Common.{◌≡◌, ◌∙◌, ◌⊎◌, ℕ, zero, suc, ◌+◌, ◌*◌, ◌%◌, ◌<◌, ◌≤◌, ◌^◌, inl, inr, Bool, true, false, cond, List, [], ◌∷◌, ◌++◌, length, map, take, drop, refl, sym, ap, subst, arith, flat_map, get_or}
+use Rattle.std.proofs.Common.{◌≡◌, ◌∙◌, ◌⊎◌, ℕ, zero, suc, ◌+◌, ◌*◌, ◌%◌, ◌<◌, ◌≤◌, ◌^◌, inl, inr, Bool, true, false, cond, List, [], ◌∷◌, ◌++◌}
+use Rattle.std.proofs.Common.{length, map, take, drop, refl, sym, ap, subst, arith, flat_map, get_or}
 use Rattle.std.proofs.Math.Nat.{mul_comm, suc-mul}
 use Rattle.std.proofs.Math.Seq.{take-append_seam}
 use Rattle.std.proofs.lemmas.Bool.{and_parts, or_cases, eqb-true}
@@ -140,7 +141,8 @@ pub all_bytes : (block : List ℕ) (o : Order) (n : ℕ) (slots : List Slot) →
 all_bytes block o n slots =
     ap (flat_map (λ s. items_bytes o (items_read block s))) (sym (take-append-drop n slots))
     ∙ flat_map-append (λ s. items_bytes o (items_read block s)) (take n slots) (drop n slots)
-    ∙ ap (λ xs. xs ++ flat_map (λ s. items_bytes o (items_read block s)) (drop n slots)) (sym (flat_map-map (items_bytes {A = Global} o) (items_read block) (take n slots)))
+    ∙ ap (λ xs. xs ++ flat_map (λ s. items_bytes o (items_read block s)) (drop n slots)) (sym (flat_map-map (items_bytes {A = Global} o)
+    (items_read block) (take n slots)))
     ∙ ap (λ xs. flat_map (items_bytes {A = Global} o) (map (items_read block) (take n slots)) ++ xs)
     (sym (flat_map-map (items_bytes {A = Global} o) (items_read block) (drop n slots)))
 
@@ -161,7 +163,8 @@ said_record f block p bytes are defined header fit stand is =
     ap (λ o. unwrap_or (option_map (λ (q : Defined Global). length q.definition.fields) o) 0) defined
     ∙ sym (length-map p.definition.fields (λ (d : FieldDef). (d.code, d.size))) in
     let both = shapes block (layout p) (dev_layout p) slots are fit stand in
-    let order : order_at (known_to f) local ≡ p.definition.order = ap (λ o. unwrap_or (option_map (λ (q : Defined Global). q.definition.order) o) Little) defined in
+    let order : order_at (known_to f) local ≡ p.definition.order = ap (λ o. unwrap_or (option_map (λ
+    (q : Defined Global). q.definition.order) o) Little) defined in
     let fits : DataFits v p = record {
       header = header;
       fields = subst (λ k. HaveShape (layout p) (map (items_read block) (take k slots))) (sym n) both.0;

@@ -1,5 +1,6 @@
 -- Items that are written as a file has them.
-use Rattle.std.proofs.Common.{◌≡◌, ◌∙◌, ℕ, zero, suc, ◌+◌, ◌*◌, ◌^◌, ◌<◌, ◌≤◌, List, ◌∷◌, ◌++◌, length, take, drop, sym, ap, subst, arith, append_assoc, flat_map}
+use Rattle.std.proofs.Common.{◌≡◌, ◌∙◌, ℕ, zero, suc, ◌+◌, ◌*◌, ◌^◌, ◌<◌, ◌≤◌, List, ◌∷◌, ◌++◌, length, take, drop, sym, ap, subst, arith}
+use Rattle.std.proofs.Common.{append_assoc, flat_map}
 use Rattle.std.proofs.Math.Nat.{mul_comm, suc-mul}
 use Rattle.std.proofs.Math.Seq.{take-append-add, take-add}
 use Rattle.std.proofs.lemmas.List.{append-nil, length-take-le, length-drop, take-take}
@@ -50,7 +51,8 @@ number_in_piece w rest piece are enough first =
     (subst (λ k. number Little (take w rest) < 256 ^ k) (length-take-le w rest enough) (number-below Little (take w rest) (IsBytes-take w rest are)))
 
 -- Numbers with their lowest byte first spell the bytes that they are read from.
-spelled : (w n : ℕ) (bytes : List ℕ) → IsBytes bytes → n * w ≤ length bytes → flat_map (number_bytes Little w) (numbers_of Little w n bytes) ≡ take (n * w) bytes
+spelled : (w n : ℕ) (bytes : List ℕ) → IsBytes bytes → n * w ≤ length bytes → flat_map (number_bytes Little w) (numbers_of Little w n bytes) ≡ take
+    (n * w) bytes
 spelled w zero bytes are enough =
     let none : 0 ≡ 0 * w = omega arith in
     ap (λ k. take k bytes) none
@@ -65,7 +67,8 @@ spelled w (suc n) bytes are enough =
     ap (λ xs. xs ++ flat_map (number_bytes Little w) (numbers_of Little w n rest)) here ∙ ap (λ xs. piece ++ xs) others
     ∙ sym (take-add w (n * w) bytes) ∙ ap (λ k. take k bytes) (sym all)
 
-pub little_items : (block : List ℕ) (s : Slot) (size : ℕ) (source : List ℕ) → IsBytes block → s.place + s.width * s.count ≤ length block → size ≡ s.width * s.count
+pub little_items : (block : List ℕ) (s : Slot) (size : ℕ) (source : List ℕ) → IsBytes block → s.place + s.width * s.count ≤ length block
+    → size ≡ s.width * s.count
     → source ≡ drop s.place block → take size source ≡ items_bytes Little (items_read block s)
 little_items block s size source are enough is from =
     let turned : s.width * s.count ≡ s.count * s.width = mul_comm s.width s.count in

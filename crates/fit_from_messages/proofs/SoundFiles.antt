@@ -19,7 +19,7 @@ use Rattle.fit_record.specs.declared.message.Record.TheVariants.{Define, Values 
 use Rattle.fit_record.specs.declared.message.Values.{Values}
 use Rattle.fit_from_messages.specs.declared.file.OpenFile.{OpenFile}
 use Rattle.fit_from_messages.specs.declared.slot.Slot.{Slot}
-use Rattle.fit_from_messages.specs.inner.OpenFiles.{IsSoundFile}
+use Rattle.fit_from_messages.specs.inner.OpenFiles.{IsGoodFile}
 use Rattle.fit_from_messages.specs.inner.Slots.{SlotsFit}
 
 -- the slots are those of what is defined for a local message type, if anything is
@@ -40,8 +40,8 @@ next_fit e records r known fit one = all_fit-append empty_environment records (r
 
 -- ---- a data message
 
-pub sound_message : (f g : OpenFile) (v : Values Global) → IsSoundFile f → Fits f.env (Data v) → g.header ≡ f.header → g.records ≡ f.records ++ Data v ∷ []
-    → g.env ≡ learn f.env (Data v) → g.slots ≡ f.slots → IsSoundFile g
+pub sound_message : (f g : OpenFile) (v : Values Global) → IsGoodFile f → Fits f.env (Data v) → g.header ≡ f.header → g.records ≡ f.records ++ Data v ∷ []
+    → g.env ≡ learn f.env (Data v) → g.slots ≡ f.slots → IsGoodFile g
 sound_message f g v sound fits header records env slots = record {
   form = subst (λ h. FormFits h) (sym header) sound.form;
   known = env ∙ next_known f.env f.records (Data v) sound.known ∙ ap (learn_all empty_environment) (sym records);
@@ -55,10 +55,10 @@ sound_message f g v sound fits header records env slots = record {
 
 -- ---- a definition
 
-sixteen_known : (f : OpenFile) → IsSoundFile f → length f.env.places ≡ 16
+sixteen_known : (f : OpenFile) → IsGoodFile f → length f.env.places ≡ 16
 sixteen_known f sound = ap (λ (e : Environment Global). length e.places) sound.known ∙ sixteen_places {A = Global} f.records
 
-slots_next : (f : OpenFile) (d : MessageDef Global) (slots : List Slot) (local : ℕ) → IsSoundFile f → d.local < 16
+slots_next : (f : OpenFile) (d : MessageDef Global) (slots : List Slot) (local : ℕ) → IsGoodFile f → d.local < 16
     → SlotsFit (layout (defined_by f.env d) ++ dev_layout (defined_by f.env d)) slots
     → AreOf (defined_at (learn f.env (Define d)) local) (slice_index_or (slice_set f.slots d.local slots) local [])
 slots_next f d slots local sound few fit = go (eqb_tells local d.local)
@@ -71,7 +71,8 @@ slots_next f d slots local sound few fit = go (eqb_tells local d.local)
         let there : slice_index_or (slice_set f.slots d.local slots) d.local [] ≡ slots =
         get_or-set_same f.slots d.local slots [] (omega (arith, few, sound.sixteen)) in
         subst (λ k. AreOf (defined_at (learn f.env (Define d)) k) (slice_index_or (slice_set f.slots d.local slots) k [])) (sym same.1)
-        (subst (λ o. AreOf o (slice_index_or (slice_set f.slots d.local slots) d.local [])) (sym here) (subst (AreOf (Some (defined_by f.env d))) (sym there) fit))
+        (subst (λ o. AreOf o (slice_index_or (slice_set f.slots d.local slots) d.local [])) (sym here) (subst (AreOf (Some (defined_by f.env d)))
+        (sym there) fit))
     go (inr other) =
         let here : slice_index_or (slice_set f.env.places d.local (Some (defined_by f.env d))) local None ≡ defined_at f.env local =
         get_or-set_other f.env.places d.local local (Some (defined_by f.env d)) None other.1 in
@@ -80,9 +81,9 @@ slots_next f d slots local sound few fit = go (eqb_tells local d.local)
         subst (λ o. AreOf o (slice_index_or (slice_set f.slots d.local slots) local [])) (sym here)
         (subst (AreOf (defined_at f.env local)) (sym there) (sound.slots local))
 
-pub sound_definition : (f g : OpenFile) (d : MessageDef Global) (slots : List Slot) → IsSoundFile f → DefinitionFits d → g.header ≡ f.header
+pub sound_definition : (f g : OpenFile) (d : MessageDef Global) (slots : List Slot) → IsGoodFile f → DefinitionFits d → g.header ≡ f.header
     → g.records ≡ f.records ++ Define d ∷ [] → g.env ≡ learn f.env (Define d) → g.slots ≡ slice_set f.slots d.local slots
-    → SlotsFit (layout (defined_by f.env d) ++ dev_layout (defined_by f.env d)) slots → IsSoundFile g
+    → SlotsFit (layout (defined_by f.env d) ++ dev_layout (defined_by f.env d)) slots → IsGoodFile g
 sound_definition f g d slots sound fits header records env set_slots fit = record {
   form = subst (λ h. FormFits h) (sym header) sound.form;
   known = env ∙ next_known f.env f.records (Define d) sound.known ∙ ap (learn_all empty_environment) (sym records);
@@ -90,9 +91,11 @@ sound_definition f g d slots sound fits header records env set_slots fit = recor
   sixteen = ap length set_slots ∙ length-set f.slots d.local slots ∙ sound.sixteen;
   slots = λ local.
       subst (λ e. AreOf (defined_at e local) (slice_index_or g.slots local [])) (sym env)
-      (subst (λ ss. AreOf (defined_at (learn f.env (Define d)) local) (slice_index_or ss local [])) (sym set_slots) (slots_next f d slots local sound fits.local fit));
+      (subst (λ ss. AreOf (defined_at (learn f.env (Define d)) local) (slice_index_or ss local [])) (sym set_slots)
+      (slots_next f d slots local sound fits.local fit));
 }
 
 -- what is defined then
-pub defined_then : (f : OpenFile) (d : MessageDef Global) → IsSoundFile f → d.local < 16 → defined_at (learn f.env (Define d)) d.local ≡ Some (defined_by f.env d)
+pub defined_then : (f : OpenFile) (d : MessageDef Global) → IsGoodFile f → d.local < 16 → defined_at (learn f.env (Define d)) d.local ≡ Some
+    (defined_by f.env d)
 defined_then f d sound few = get_or-set_same f.env.places d.local (Some (defined_by f.env d)) None (omega (arith, few, sixteen_known f sound))

@@ -18,14 +18,15 @@ use Rattle.fit_record.specs.declared.file.FitFile.{FitFile}
 use Rattle.fit_record.specs.declared.fits.ShapeFault.{ShapeFault}
 use Rattle.fit_report.specs.Reports.{Channel}
 use Rattle.fit_from_messages.proofs.OneReading.{says_one, says_or_refused}
-use Rattle.fit_from_messages.specs.FromBlocks.{AreBlocksOf, AreUnwritable, FromBlocks, FromBlocksFault, FromBlocksOf, written_fault}
+use Rattle.fit_from_messages.specs.FromBlocks.{AreBlocksOf, AreUnwritable, FromBlocks, FromBlocksFault, FromBlocksOf, unwritten_fault}
 use Rattle.fit_from_messages.specs.declared.fault.BlocksFault.{BlocksFault}
 use Rattle.fit_from_messages.specs.declared.fault.BlocksFault.TheVariants as faults
-use Rattle.fit_from_messages.specs.inner.Chains.{AreSaid, IsReadFault, IsSaidFile}
+use Rattle.fit_from_messages.specs.inner.Chains.{AreSaid, IsUnreadBlock, IsSaidFile}
 
 -- ---- files that blocks say
 
-good_between : (front : List (FitFile Global)) (f : FitFile Global) (back : List (FitFile Global)) → AllByRecursion IsSaidFile (front ++ f ∷ back) → IsSaidFile f
+good_between : (front : List (FitFile Global)) (f : FitFile Global) (back : List (FitFile Global)) → AllByRecursion IsSaidFile (front ++ f ∷ back)
+    → IsSaidFile f
 good_between [] f back h = h.0
 good_between (x ∷ front) f back h = good_between front f back h.1
 
@@ -49,7 +50,7 @@ module _ (exact : FaultsAreExact Global) (blocks : List ℕ) (files : List (FitF
   from_blocks good put works = (files, chain_bytes files, blocks_of good, put, works)
 
   pub from_fault : (fault : EncodeFault) → UnlessWrite fault (IsFirstFault files fault) → IfWrite fault (λ written. IsWellFormedChain chain_limit files)
-      → IfWrite fault (StopsAt sink.before sink.after sink.failed (chain_bytes files)) → FromBlocksFault blocks sink (written_fault fault)
+      → IfWrite fault (StopsAt sink.before sink.after sink.failed (chain_bytes files)) → FromBlocksFault blocks sink (unwritten_fault fault)
   from_fault NoMemory wrong good stops = tt
   from_fault (Write written) wrong good stops = (files, chain_bytes files, blocks_of good, stops)
   from_fault (TooLong file index) wrong good stops = (files, are.says, wrong)
@@ -61,7 +62,7 @@ module _ (exact : FaultsAreExact Global) (blocks : List ℕ) (files : List (FitF
 
 -- ---- blocks that aren't read
 
-pub from_unread : (blocks : List ℕ) (sink : Channel) (fault : BlocksFault) → IsReadFault blocks fault → FromBlocksFault blocks sink fault
+pub from_unread : (blocks : List ℕ) (sink : Channel) (fault : BlocksFault) → IsUnreadBlock blocks fault → FromBlocksFault blocks sink fault
 from_unread blocks sink (faults.Block number place reason) h = h
 from_unread blocks sink faults.NoMemory h = tt
 from_unread blocks sink fault h = absurd h

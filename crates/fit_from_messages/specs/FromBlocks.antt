@@ -13,10 +13,10 @@ use Rattle.fit_from_messages.specs.declared.fault.BlocksFault.TheVariants.{Block
 use Rattle.fit_from_messages.specs.SaysChain.{IsRefusedBlock, SaysChain}
 
 -- the fault of files that blocks say and that weren't written
-abbrev pub written_fault : EncodeFault → BlocksFault
-written_fault encode.NoMemory = NoMemory
-written_fault (encode.Write written) = Write written
-written_fault fault = Encode fault
+abbrev pub unwritten_fault : EncodeFault → BlocksFault
+unwritten_fault encode.NoMemory = NoMemory
+unwritten_fault (encode.Write written) = Write written
+unwritten_fault fault = Encode fault
 
 -- The blocks are those of the chain with these bytes.
 pub record AreBlocksOf (blocks : List ℕ) (files : List (FitFile Global)) (bytes : List ℕ) : Type 0 where

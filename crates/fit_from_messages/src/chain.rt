@@ -3,9 +3,9 @@ ghost use Rattle.std.specs.Prelude.{◌≡◌, ◌↔◌, ◌<◌, ◌∷◌, �
 ghost use Rattle.fit_encode.specs.Encoding.{file_of};
 ghost use Rattle.fit_frame.specs.Header.{FormFits};
 ghost use Rattle.fit_from_messages.specs.SaysChain.{IsBlock, after, nothing_said, reason};
-ghost use Rattle.fit_from_messages.specs.inner.Chains.{IsSoundChain, said};
+ghost use Rattle.fit_from_messages.specs.inner.Chains.{IsGoodChain, said_so_far};
 ghost use Rattle.fit_from_messages.specs.inner.Misfits.{IsMisfitBlock};
-ghost use Rattle.fit_from_messages.specs.inner.OpenFiles.{IsSoundFile, begun};
+ghost use Rattle.fit_from_messages.specs.inner.OpenFiles.{IsGoodFile, begun_file};
 
 use crate::BlockReason;
 use crate::file::{OpenFile, SlotLists};
@@ -87,9 +87,9 @@ impl CurrentFile {
     /// A file with this header begins.
     fn begin(&mut self, alloc: Global, header: Header)
         requires { FormFits header }
-        ensures begun { IsSomeAnd self.new (λ f. begun f
+        ensures begun { IsSomeAnd self.new (λ f. begun_file f
             ≡ record { header = header; records = []; slots = replicate 16 [] }) }
-        ensures sound { IsSomeAnd self.new IsSoundFile }
+        ensures sound { IsSomeAnd self.new IsGoodFile }
     {
         self.file.header = header;
         self.file.records = SpelledRecords::new(alloc);
@@ -109,8 +109,8 @@ pub(crate) struct Chain {
 impl Chain {
     /// Nothing has come.
     pub(crate) fn new(alloc: Global) -> Chain
-        ensures nothing { said result ≡ nothing_said }
-        ensures sound { IsSoundChain result }
+        ensures nothing { said_so_far result ≡ nothing_said }
+        ensures sound { IsGoodChain result }
     {
         Chain {
             files: SpelledFiles::new(alloc),
@@ -121,13 +121,13 @@ impl Chain {
     /// Takes the block in which a file begins.
     #[inline(never)]
     fn begin_file(&mut self, alloc: Global, block: &[u8]) -> Result<(), Misfit>
-        requires sound { IsSoundChain self.old }
+        requires sound { IsGoodChain self.old }
         requires none { self.old.current ≡ None }
         requires block { IsBlock block.now }
-        ensures stands { OnOk result (reason (said self.old) block.now ≡ None) }
-        ensures after { OnOk result (said self.new ≡ after (said self.old) block.now) }
-        ensures sound { OnOk result (IsSoundChain self.new) }
-        ensures err { IfErr result (IsMisfitBlock (reason (said self.old) block.now)) }
+        ensures stands { OnOk result (reason (said_so_far self.old) block.now ≡ None) }
+        ensures after { OnOk result (said_so_far self.new ≡ after (said_so_far self.old) block.now) }
+        ensures sound { OnOk result (IsGoodChain self.new) }
+        ensures err { IfErr result (IsMisfitBlock (reason (said_so_far self.old) block.now)) }
     {
         if block[4] != 1 || !self.files.has_room() {
             return Err(Misfit::Block(BlockReason::Kind));
@@ -142,7 +142,7 @@ impl Chain {
     /// Ends the file that has begun.
     #[inline(never)]
     fn end_file(&mut self) -> Result<(), AllocError>
-        requires { IsSomeAnd self.old.current IsSoundFile }
+        requires { IsSomeAnd self.old.current IsGoodFile }
         ensures files { OnOk result (IsSomeAnd self.old.current (λ f.
             self.new.files ≡ self.old.files ++ file_of f.header f.records ∷ [])) }
         ensures current { OnOk result (self.new.current ≡ None) }
@@ -155,13 +155,13 @@ impl Chain {
 
     /// Takes a block in a file that has begun.
     fn go_on(&mut self, alloc: Global, block: &[u8]) -> Result<(), Misfit>
-        requires sound { IsSoundChain self.old }
+        requires sound { IsGoodChain self.old }
         requires some { self.old.current ≡ None → ⊥ }
         requires block { IsBlock block.now }
-        ensures stands { OnOk result (reason (said self.old) block.now ≡ None) }
-        ensures after { OnOk result (said self.new ≡ after (said self.old) block.now) }
-        ensures sound { OnOk result (IsSoundChain self.new) }
-        ensures err { IfErr result (IsMisfitBlock (reason (said self.old) block.now)) }
+        ensures stands { OnOk result (reason (said_so_far self.old) block.now ≡ None) }
+        ensures after { OnOk result (said_so_far self.new ≡ after (said_so_far self.old) block.now) }
+        ensures sound { OnOk result (IsGoodChain self.new) }
+        ensures err { IfErr result (IsMisfitBlock (reason (said_so_far self.old) block.now)) }
     {
         match block[4] {
             2 => self.current.file.take_definition(alloc, block),
@@ -176,12 +176,12 @@ impl Chain {
 
     /// Takes the next block.
     pub(crate) fn take_block(&mut self, alloc: Global, block: &[u8]) -> Result<(), Misfit>
-        requires sound { IsSoundChain self.old }
+        requires sound { IsGoodChain self.old }
         requires block { IsBlock block.now }
-        ensures stands { OnOk result (reason (said self.old) block.now ≡ None) }
-        ensures after { OnOk result (said self.new ≡ after (said self.old) block.now) }
-        ensures sound { OnOk result (IsSoundChain self.new) }
-        ensures err { IfErr result (IsMisfitBlock (reason (said self.old) block.now)) }
+        ensures stands { OnOk result (reason (said_so_far self.old) block.now ≡ None) }
+        ensures after { OnOk result (said_so_far self.new ≡ after (said_so_far self.old) block.now) }
+        ensures sound { OnOk result (IsGoodChain self.new) }
+        ensures err { IfErr result (IsMisfitBlock (reason (said_so_far self.old) block.now)) }
     {
         if self.current.is_none() {
             self.begin_file(alloc, block)

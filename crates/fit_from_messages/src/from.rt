@@ -3,9 +3,9 @@ ghost use Rattle.std.specs.Prelude.{◌≡◌, ◌+◌, ◌<◌, ℕ, List, [], 
 ghost use Rattle.std.specs.Global.{Global};
 ghost use Rattle.fit_record.specs.declared.file.FitFile.{FitFile};
 ghost use Rattle.fit_report.specs.Reports.{channel};
-ghost use Rattle.fit_from_messages.specs.FromBlocks.{AreBlocksOf, FromBlocks, FromBlocksFault, FromBlocksOf, UnlessStopped, written_fault};
+ghost use Rattle.fit_from_messages.specs.FromBlocks.{AreBlocksOf, FromBlocks, FromBlocksFault, FromBlocksOf, UnlessStopped, unwritten_fault};
 ghost use Rattle.fit_from_messages.specs.SaysChain.{SaysChain};
-ghost use Rattle.fit_from_messages.specs.inner.Chains.{AreSaid, HasSaid, IsReadFault, fault_at};
+ghost use Rattle.fit_from_messages.specs.inner.Chains.{AreSaid, HasSaid, IsUnreadBlock, fault_at};
 
 use crate::chain::Chain;
 use crate::misfit::Misfit;
@@ -44,7 +44,7 @@ fn take_first<'a>(
     requires some { 0 < length rest.now }
     ensures ok { IfOk result (λ left. HasSaid blocks.now left.now (number + 1) chain.new) }
     ensures shorter { IfOk result (λ left. length left.now < length rest.now) }
-    ensures err { IfErr result (IsReadFault blocks.now) }
+    ensures err { IfErr result (IsUnreadBlock blocks.now) }
 {
     let place = (blocks.len() - rest.len()) as u64;
     let Some((block, after)) = first_block(rest) else {
@@ -64,7 +64,7 @@ fn take_first<'a>(
 fn take_all(chain: &mut Chain, alloc: Global, blocks: &[u8]) -> Result<(), BlocksFault>
     requires { HasSaid blocks.now blocks.now 0 chain.old }
     ensures ok { OnOk result (AreSaid blocks.now chain.new.files) }
-    ensures err { IfErr result (IsReadFault blocks.now) }
+    ensures err { IfErr result (IsUnreadBlock blocks.now) }
 {
     let mut rest = blocks;
     let mut number = 0;
@@ -85,7 +85,7 @@ fn take_all(chain: &mut Chain, alloc: Global, blocks: &[u8]) -> Result<(), Block
 /// Takes all blocks, and hands out the files that they say.
 fn read_files(alloc: Global, blocks: &[u8], files: &mut SpelledFiles) -> Result<(), BlocksFault>
     ensures ok { OnOk result (AreSaid blocks.now files.new) }
-    ensures err { IfErr result (IsReadFault blocks.now) }
+    ensures err { IfErr result (IsUnreadBlock blocks.now) }
 {
     let mut chain = Chain::new(alloc);
     let end = take_all(&mut chain, alloc, blocks);
@@ -95,7 +95,7 @@ fn read_files(alloc: Global, blocks: &[u8], files: &mut SpelledFiles) -> Result<
 
 /// The fault of files that blocks say and that weren't written.
 fn from_fault(fault: EncodeFault) -> BlocksFault
-    ensures { result ≡ written_fault fault }
+    ensures { result ≡ unwritten_fault fault }
 {
     match fault {
         EncodeFault::NoMemory => BlocksFault::NoMemory,

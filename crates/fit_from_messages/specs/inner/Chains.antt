@@ -14,11 +14,11 @@ use Rattle.fit_from_messages.specs.declared.fault.BlocksFault.TheVariants.{Block
 use Rattle.fit_from_messages.specs.declared.misfit.Misfit.{Misfit}
 use Rattle.fit_from_messages.specs.declared.misfit.Misfit.TheVariants as misfit
 use Rattle.fit_from_messages.specs.declared.file.OpenFile.{OpenFile}
-use Rattle.fit_from_messages.specs.inner.OpenFiles.{IsSoundFile, begun}
+use Rattle.fit_from_messages.specs.inner.OpenFiles.{IsGoodFile, begun_file}
 
 -- what blocks have said
-abbrev pub said : Chain → Said
-said c = record { files = c.files; current = option_map begun c.current }
+abbrev pub said_so_far : Chain → Said
+said_so_far c = record { files = c.files; current = option_map begun_file c.current }
 
 -- a file that blocks can say: nothing but the length of its data, or zeros for a sum of 0, can be wrong with it
 pub record IsSaidFile (f : FitFile Global) : Type 0 where
@@ -28,9 +28,9 @@ pub record IsSaidFile (f : FitFile Global) : Type 0 where
 -- there may be one more file
 abbrev pub IsSoundCurrent : ℕ → Option OpenFile → Type 0
 IsSoundCurrent count None = count ≤ chain_limit
-IsSoundCurrent count (Some f) = (count < chain_limit) × IsSoundFile f
+IsSoundCurrent count (Some f) = (count < chain_limit) × IsGoodFile f
 
-pub record IsSoundChain (c : Chain) : Type 0 where
+pub record IsGoodChain (c : Chain) : Type 0 where
   pub files : AllByRecursion IsSaidFile c.files
   pub current : IsSoundCurrent (length c.files) c.current
 
@@ -38,16 +38,16 @@ pub record IsSoundChain (c : Chain) : Type 0 where
 pub record HasSaid (bytes rest : List ℕ) (count : ℕ) (c : Chain) : Type 0 where
   pub blocks : List (List ℕ)
   pub are_joined : bytes ≡ joined_blocks blocks ++ rest
-  pub say : Say nothing_said blocks (said c)
+  pub say : Say nothing_said blocks (said_so_far c)
   pub counted : count ≡ length blocks
   pub few : count + length rest ≤ length bytes
-  pub sound : IsSoundChain c
+  pub sound : IsGoodChain c
 
 -- A block can't stand where it is, or memory was refused.
-abbrev pub IsReadFault : List ℕ → BlocksFault → Type 0
-IsReadFault bytes (Block number place reason) = IsRefusedBlock bytes number place reason
-IsReadFault bytes NoMemory = Unit {0}
-IsReadFault bytes _ = ⊥
+abbrev pub IsUnreadBlock : List ℕ → BlocksFault → Type 0
+IsUnreadBlock bytes (Block number place reason) = IsRefusedBlock bytes number place reason
+IsUnreadBlock bytes NoMemory = Unit {0}
+IsUnreadBlock bytes _ = ⊥
 
 -- the fault at the block of this number and place
 abbrev pub fault_at : ℕ → ℕ → Misfit → BlocksFault

@@ -8,11 +8,11 @@ use Rattle.fit_from_messages.specs.declared.file.OpenFile.{OpenFile}
 use Rattle.fit_from_messages.specs.inner.Slots.{SlotsFit}
 
 -- what blocks have said of the file
-abbrev pub begun : OpenFile → Begun
-begun f = record { header = f.header; records = f.records; slots = f.slots }
+abbrev pub begun_file : OpenFile → Begun
+begun_file f = record { header = f.header; records = f.records; slots = f.slots }
 
 -- What its records define is known, and the items of messages have the shapes that are defined.
-pub record IsSoundFile (f : OpenFile) : Type 0 where
+pub record IsGoodFile (f : OpenFile) : Type 0 where
   pub form : FormFits f.header
   pub known : f.env ≡ learn_all empty_environment f.records
   pub fit : AllFit empty_environment f.records

@@ -24,7 +24,8 @@ returns-in_err-rest-clause-none c =
       few_dev = search rules;
       from = search rules;
     } in
-    λ _. no_dev c.args.block.now c.in_ok-begin.begin c.in_ok-field_count.field_count c.in_ok-field_count.dev_count c.split_at.result.1.now c.in_ok-dev.dev.now b (search rules) (search rules) (search rules)
+    λ _. no_dev c.args.block.now c.in_ok-begin.begin c.in_ok-field_count.field_count c.in_ok-field_count.dev_count c.split_at.result.1.now
+    c.in_ok-dev.dev.now b (search rules) (search rules) (search rules)
 
 pub returns-then-not-is_empty-clause-none : goal.returns-then-not-is_empty-clause-none
 returns-then-not-is_empty-clause-none c =
@@ -36,7 +37,8 @@ returns-then-not-is_empty-clause-none c =
       few_dev = search rules;
       from = search rules;
     } in
-    λ _. all_stand c.args.block.now c.in_ok-begin.begin c.in_ok-field_count.field_count c.in_ok-field_count.dev_count c.split_at.result.1.now c.in_ok-dev.dev.now c.in_ok-rest.rest.now _ b (search rules) (search rules) (search rules) (search rules) (search rules)
+    λ _. all_stand c.args.block.now c.in_ok-begin.begin c.in_ok-field_count.field_count c.in_ok-field_count.dev_count c.split_at.result.1.now
+    c.in_ok-dev.dev.now c.in_ok-rest.rest.now _ b (search rules) (search rules) (search rules) (search rules) (search rules)
 
 pub returns-clause-stand : goal.returns-clause-stand
 returns-clause-stand c =
@@ -48,7 +50,8 @@ returns-clause-stand c =
       few_dev = search rules;
       from = search rules;
     } in
-    all_stand c.args.block.now c.in_ok-begin.begin c.in_ok-field_count.field_count c.in_ok-field_count.dev_count c.split_at.result.1.now c.in_ok-dev.dev.now c.in_ok-rest.rest.now _ b (search rules) (search rules) (search rules) (search rules) (search rules)
+    all_stand c.args.block.now c.in_ok-begin.begin c.in_ok-field_count.field_count c.in_ok-field_count.dev_count c.split_at.result.1.now
+    c.in_ok-dev.dev.now c.in_ok-rest.rest.now _ b (search rules) (search rules) (search rules) (search rules) (search rules)
 
 pub returns-clause-fields : goal.returns-clause-fields
 returns-clause-fields c =
@@ -72,4 +75,5 @@ returns-clause-dev c =
       few_dev = search rules;
       from = search rules;
     } in
-    dev_as c.args.block.now c.in_ok-begin.begin c.in_ok-field_count.field_count c.in_ok-field_count.dev_count c.split_at.result.1.now c.in_ok-dev.dev.now b (search rules)
+    dev_as c.args.block.now c.in_ok-begin.begin c.in_ok-field_count.field_count c.in_ok-field_count.dev_count c.split_at.result.1.now
+    c.in_ok-dev.dev.now b (search rules)

@@ -5,28 +5,38 @@ use Rattle.fit_from_messages.proofs.fields.read_fields.Goals as goal
 
 pub field_in-requires : goal.field_in-requires
 field_in-requires c =
-    let more : entries_of (c.args.count - c.loop.counter) c.loop.rest.now ≡ c.split_entry.result.0.now ∷ entries_of (c.args.count - (c.loop.counter + 1)) c.split_entry.result.1.now =
-    one_more _ _ c.loop.rest.now c.split_entry.result.0.now c.split_entry.result.1.now (omega (arith, c.loop-test.true)) c.split_entry.ensures.entry c.split_entry.ensures.rest in
+    let more : entries_of (c.args.count - c.loop.counter) c.loop.rest.now ≡ c.split_entry.result.0.now ∷ entries_of (c.args.count -
+    (c.loop.counter + 1)) c.split_entry.result.1.now =
+    one_more _ _ c.loop.rest.now c.split_entry.result.0.now c.split_entry.result.1.now (omega
+    (arith, c.loop-test.true)) c.split_entry.ensures.entry c.split_entry.ensures.rest in
     long_entry 0 c.split_entry.result.0.now (first_stands 0 _ _ c.split_entry.result.0.now c.loop.invariant.stand more)
 
 pub slot_in-requires : goal.slot_in-requires
 slot_in-requires c =
-    let more : entries_of (c.args.count - c.loop.counter) c.loop.rest.now ≡ c.split_entry.result.0.now ∷ entries_of (c.args.count - (c.loop.counter + 1)) c.split_entry.result.1.now =
-    one_more _ _ c.loop.rest.now c.split_entry.result.0.now c.split_entry.result.1.now (omega (arith, c.loop-test.true)) c.split_entry.ensures.entry c.split_entry.ensures.rest in
+    let more : entries_of (c.args.count - c.loop.counter) c.loop.rest.now ≡ c.split_entry.result.0.now ∷ entries_of (c.args.count -
+    (c.loop.counter + 1)) c.split_entry.result.1.now =
+    one_more _ _ c.loop.rest.now c.split_entry.result.0.now c.split_entry.result.1.now (omega
+    (arith, c.loop-test.true)) c.split_entry.ensures.entry c.split_entry.ensures.rest in
     long_entry 0 c.split_entry.result.0.now (first_stands 0 _ _ c.split_entry.result.0.now c.loop.invariant.stand more)
 
 pub returns-in_default-clause-err : goal.returns-in_default-clause-err
 returns-in_default-clause-err c =
-    let more : entries_of (c.args.count - c.loop.counter) c.loop.rest.now ≡ c.split_entry.result.0.now ∷ entries_of (c.args.count - (c.loop.counter + 1)) c.split_entry.result.1.now =
-    one_more _ _ c.loop.rest.now c.split_entry.result.0.now c.split_entry.result.1.now (omega (arith, c.loop-test.true)) c.split_entry.ensures.entry c.split_entry.ensures.rest in
+    let more : entries_of (c.args.count - c.loop.counter) c.loop.rest.now ≡ c.split_entry.result.0.now ∷ entries_of (c.args.count -
+    (c.loop.counter + 1)) c.split_entry.result.1.now =
+    one_more _ _ c.loop.rest.now c.split_entry.result.0.now c.split_entry.result.1.now (omega
+    (arith, c.loop-test.true)) c.split_entry.ensures.entry c.split_entry.ensures.rest in
     (refl, fails_at (λ e. size_fits (byte_at 7 e) e) _ _ _ c.split_entry.result.0.now c.loop.invariant.fit more (search rules))
 
 pub loop-preserved : goal.loop-preserved
 loop-preserved c =
-    let more : entries_of (c.args.count - c.loop.counter) c.loop.rest.now ≡ c.split_entry.result.0.now ∷ entries_of (c.args.count - (c.loop.counter + 1)) c.split_entry.result.1.now =
-    one_more _ _ c.loop.rest.now c.split_entry.result.0.now c.split_entry.result.1.now (omega (arith, c.loop-test.true)) c.split_entry.ensures.entry c.split_entry.ensures.rest in record {
+    let more : entries_of (c.args.count - c.loop.counter) c.loop.rest.now ≡ c.split_entry.result.0.now ∷ entries_of (c.args.count -
+    (c.loop.counter + 1)) c.split_entry.result.1.now =
+    one_more _ _ c.loop.rest.now c.split_entry.result.0.now c.split_entry.result.1.now (omega
+    (arith, c.loop-test.true)) c.split_entry.ensures.entry c.split_entry.ensures.rest in record {
       stand = others_stand 0 _ _ c.split_entry.result.0.now c.loop.invariant.stand more;
-      fields = pushed field_in _ c.loop.fields c.push.new.self c.in-Some.field _ _ c.split_entry.result.0.now c.loop.invariant.fields more (search rules) (search rules);
-      slots = pushed slot_in _ c.loop.slots c.push-else-is_err.new.self c.slot_in.result _ _ c.split_entry.result.0.now c.loop.invariant.slots more (search rules) (search rules);
+      fields = pushed field_in _ c.loop.fields c.push.new.self c.in-Some.field _ _ c.split_entry.result.0.now c.loop.invariant.fields more
+          (search rules) (search rules);
+      slots = pushed slot_in _ c.loop.slots c.push-else-is_err.new.self c.slot_in.result _ _ c.split_entry.result.0.now c.loop.invariant.slots more
+          (search rules) (search rules);
       fit = tested (λ e. size_fits (byte_at 7 e) e) _ _ _ c.split_entry.result.0.now c.loop.invariant.fit more (search rules);
     }

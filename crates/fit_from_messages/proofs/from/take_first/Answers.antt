@@ -1,5 +1,5 @@
 use Rattle.std.proofs.Common.{refl, sym, subst}
-use Rattle.fit_from_messages.specs.inner.Chains.{IsReadFault}
+use Rattle.fit_from_messages.specs.inner.Chains.{IsUnreadBlock}
 use Rattle.fit_from_messages.proofs.ReadChains.{misfit_fault, one_said}
 use Rattle.fit_from_messages.proofs.from.take_first.Goals as goal
 
@@ -10,6 +10,6 @@ returns-in-Ok-clause-ok c =
 
 pub returns-in-Err-clause-err : goal.returns-in-Err-clause-err
 returns-in-Err-clause-err c =
-    subst (IsReadFault c.args.blocks.now) (sym c.fault_at.ensures)
+    subst (IsUnreadBlock c.args.blocks.now) (sym c.fault_at.ensures)
     (misfit_fault c.args.blocks.now c.args.rest.now c.in-Some.block.now c.in-Some.after.now c.args.number _ c.args.chain.now c.in-Err.misfit
     c.requires.said refl c.in-Some.ensures.rest c.in-Some.ensures.block c.in-Err.ensures.err)

@@ -4,14 +4,14 @@ use Rattle.std.specs.Prelude.{slice_set}
 use Rattle.fit_base.proofs.ByteLists.{slice_is_bytes}
 use Rattle.fit_record.specs.Records.{DefinitionFits}
 use Rattle.fit_from_messages.specs.Parts.{byte_at}
-use Rattle.fit_from_messages.specs.inner.OpenFiles.{begun}
+use Rattle.fit_from_messages.specs.inner.OpenFiles.{begun_file}
 use Rattle.fit_from_messages.proofs.DefinedSlots.{asked, definition_fits, fails_by, sound_then, stands_by, tested}
 use Rattle.fit_from_messages.proofs.file.OpenFile.take_definition.Goals as goal
 
 pub returns-in_err-definition-clause-err : goal.returns-in_err-definition-clause-err
 returns-in_err-definition-clause-err c =
     let p = err_from_is_err_and c.from_residual.result c.from_residual.ensures.1 in
-    rw (p.1, p.2) (c.in_err-definition.ensures.err (begun c.args.self.now))
+    rw (p.1, p.2) (c.in_err-definition.ensures.err (begun_file c.args.self.now))
 
 pub add_definition-requires-clause-fits : goal.add_definition-requires-clause-fits
 add_definition-requires-clause-fits c =
@@ -25,14 +25,16 @@ dev_widths_fit-requires c = asked c.args.self.now c.args.block.now c.add_definit
 
 pub returns-then-not-dev_widths_fit-clause-err : goal.returns-then-not-dev_widths_fit-clause-err
 returns-then-not-dev_widths_fit-clause-err c =
-    fails_by (begun c.args.self.now) c.args.block.now c.in_ok-definition.ensures.readable (tested c.args.self.now c.args.block.now c.add_definition.new.env c.as_slice.result.now c.in_ok-definition.definition c.requires.sound
+    fails_by (begun_file c.args.self.now) c.args.block.now c.in_ok-definition.ensures.readable
+    (tested c.args.self.now c.args.block.now c.add_definition.new.env c.as_slice.result.now c.in_ok-definition.definition c.requires.sound
     c.in_ok-definition.ensures.readable (slice_is_bytes c.args.block.now c.type_inv.block) c.in_ok-definition.ensures.definition (search rules)
     (c.as_slice.ensures ∙ c.in_ok-definition.ensures.slots) c.dev_widths_fit.result c.dev_widths_fit.ensures
     ∙ c.if-not-dev_widths_fit.true)
 
 pub returns-clause-stands : goal.returns-clause-stands
 returns-clause-stands c =
-    stands_by (begun c.args.self.now) c.args.block.now c.in_ok-definition.ensures.readable (tested c.args.self.now c.args.block.now c.add_definition.new.env c.as_slice.result.now c.in_ok-definition.definition c.requires.sound
+    stands_by (begun_file c.args.self.now) c.args.block.now c.in_ok-definition.ensures.readable
+    (tested c.args.self.now c.args.block.now c.add_definition.new.env c.as_slice.result.now c.in_ok-definition.definition c.requires.sound
     c.in_ok-definition.ensures.readable (slice_is_bytes c.args.block.now c.type_inv.block) c.in_ok-definition.ensures.definition (search rules)
     (c.as_slice.ensures ∙ c.in_ok-definition.ensures.slots) c.dev_widths_fit.result c.dev_widths_fit.ensures
     ∙ c.if-not-dev_widths_fit.false)
@@ -41,7 +43,8 @@ pub returns-clause-sound : goal.returns-clause-sound
 returns-clause-sound c =
     sound_then c.args.self.now c.args.block.now c.add_definition.new.env c.as_slice.result.now c.in_ok-definition.definition c.requires.sound
     c.in_ok-definition.ensures.readable (slice_is_bytes c.args.block.now c.type_inv.block) c.in_ok-definition.ensures.definition (search rules)
-    (c.as_slice.ensures ∙ c.in_ok-definition.ensures.slots) _ (tested c.args.self.now c.args.block.now c.add_definition.new.env c.as_slice.result.now c.in_ok-definition.definition c.requires.sound
+    (c.as_slice.ensures ∙ c.in_ok-definition.ensures.slots) _ (tested c.args.self.now c.args.block.now c.add_definition.new.env c.as_slice.result.now
+    c.in_ok-definition.definition c.requires.sound
     c.in_ok-definition.ensures.readable (slice_is_bytes c.args.block.now c.type_inv.block) c.in_ok-definition.ensures.definition (search rules)
     (c.as_slice.ensures ∙ c.in_ok-definition.ensures.slots) c.dev_widths_fit.result c.dev_widths_fit.ensures ∙ c.if-not-dev_widths_fit.false)
     refl (search rules) refl
