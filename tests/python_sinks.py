@@ -6,6 +6,7 @@ import decimal
 import fractions
 import io
 import os
+import pathlib
 import pickle
 import resource
 import signal
@@ -61,8 +62,13 @@ class Sinks(unittest.TestCase):
             out.write("record", heart_rate=120)
 
     def test_path(self):
-        self.write(self.path())
-        self.assertTrue(gazhdor.check(self.path()))
+        class Bytes:
+            def __fspath__(inner):
+                return os.fsencode(self.path())
+
+        for sink in (Bytes(), pathlib.Path(self.path()), self.path()):
+            self.write(sink)
+            self.assertTrue(gazhdor.check(self.path()))
         umask = os.umask(0)
         os.umask(umask)
         self.assertEqual(os.stat(self.path()).st_mode & 0o777, 0o666 & ~umask)

@@ -25,7 +25,7 @@ Sink = Union[str, "os.PathLike[str]", Writable]
 def see_sink(sink: Any) -> None:
     """Raises what is known to be wrong with a sink before there is something to write."""
     if isinstance(sink, (str, os.PathLike)):
-        path = os.path.realpath(os.fspath(sink))
+        path = os.path.realpath(os.fsdecode(sink))
         if os.path.isdir(path):
             raise IsADirectoryError(errno.EISDIR, os.strerror(errno.EISDIR), os.fspath(sink))
         if not os.path.isdir(os.path.dirname(path)):
@@ -39,7 +39,7 @@ def see_sink(sink: Any) -> None:
 def write(sink: Any, data: bytes) -> None:
     """Writes all bytes of a file."""
     if isinstance(sink, (str, os.PathLike)):
-        _write_path(os.fspath(sink), data)
+        _write_path(os.fsdecode(sink), data)
         return
     rest = memoryview(data)
     while len(rest):
