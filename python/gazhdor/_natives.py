@@ -4,7 +4,7 @@ from typing import Dict, Optional, Tuple
 from ._bases import SIGNED
 from ._values import Definition, Developer, Entry, developers
 
-DESCRIPTION = 206
+DESCRIPTION, DEVELOPER_DATA = OF_DEVELOPERS = 206, 207
 _INDEX, _NUMBER, _TYPE, _MESSAGE, _FIELD = 0, 1, 2, 14, 15
 _NO_MESSAGE, _NO_FIELD = 0xFFFF, 0xFF
 

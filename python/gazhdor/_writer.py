@@ -9,7 +9,7 @@ from ._layout import END, KINDS, FieldDefinition, Kept, Layouts, fields_of_block
 from ._library import HAS_WRITER, VERSION, exact, library, text_of
 from ._messages import Message
 from ._names import Told, names_of
-from ._natives import DESCRIPTION, lone_number
+from ._natives import DESCRIPTION, DEVELOPER_DATA, OF_DEVELOPERS, lone_number
 from ._profile import Kind
 from ._shapes import DeveloperField, Shapes, Spec, byte, message_number
 from ._sinks import Sink, see_sink, write
@@ -19,7 +19,6 @@ from ._written import Definition
 from .errors import BlocksRefused, WrongVersion, judge
 
 _LOCALS = 16
-_DEVELOPER_DATA = 207
 _PROFILE = 21158  # the release that the names of the module are of
 
 
@@ -152,7 +151,7 @@ class Writer:
         definition = self.define(DESCRIPTION, fields)
         definition.see(told)
         if index not in self._indices:
-            self.write(_DEVELOPER_DATA, {"developer_data_index": index, **({"application_id": application} if application else {})})
+            self.write(DEVELOPER_DATA, {"developer_data_index": index, **({"application_id": application} if application else {})})
             self._indices.add(index)
         definition.write(told)
         return self._developers[index, field]
@@ -171,7 +170,7 @@ class Writer:
             self._chunks.append(block)  # type: ignore[union-attr]
             if block[5] & 1:
                 self._time = block[12:16]
-            if definition.number >= DESCRIPTION:
+            if definition.number in OF_DEVELOPERS:
                 self._learn(definition, block)
         elif isinstance(event, DefinitionMessage):
             self._emit(event._definition, event.local, event._block)
@@ -270,7 +269,7 @@ class Writer:
     def _learn(self, definition: Known, block: Union[bytes, bytearray]) -> None:
         """Takes in what a description, or the message of an application, says."""
         data, get = bytes(block), definition.by_key.get
-        if definition.number == _DEVELOPER_DATA:
+        if definition.number == DEVELOPER_DATA:
             self._indices.add(lone_number(get(3), 1, data))
         elif definition.number == DESCRIPTION:
             index, number, base = (lone_number(get(key), 1, data) for key in (0, 1, 2))

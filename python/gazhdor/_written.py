@@ -4,6 +4,7 @@ from typing import TYPE_CHECKING, Any, Dict, List, Mapping, Optional, Tuple
 from ._header_times import NO_TIME
 from ._items import Packer, packers
 from ._layout import Kept, definition_block, empty_message
+from ._natives import OF_DEVELOPERS
 from ._profile import UnknownName
 from ._put import is_of_numbers, listed, put_column
 from ._shapes import DeveloperField, Shape
@@ -87,7 +88,7 @@ class Definition:
         if block[7] != 0xFF and (self._wanted is None or self._wanted > 3):
             raise ValueError("a compressed timestamp header needs a local message type of 0 to 3: define(.., local=0)")
         self._put(block)
-        if self._number >= 206:
+        if self._number in OF_DEVELOPERS:
             self._writer._learn(self._known, block)
 
     def begin(self) -> None:
@@ -108,7 +109,7 @@ class Definition:
             put_column(block, length, self._packer(key), column)
         if rows:
             self._put(block)
-            for at in range(0, len(block), length) if self._number >= 206 else ():
+            for at in range(0, len(block), length) if self._number in OF_DEVELOPERS else ():
                 self._writer._learn(self._known, block[at : at + length])
 
     def _fit_column(self, key: Any, column: Any) -> None:
