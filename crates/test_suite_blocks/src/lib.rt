@@ -1,0 +1,9 @@
+//! Tests over `fit_messages` and `fit_from_messages`. They stand apart so that the proofs of those crates stay short.
+#![tactic(auto)]
+
+#[cfg(test)]
+mod asserts;
+#[cfg(test)]
+mod back;
+#[cfg(test)]
+mod refused;

@@ -1,0 +1,112 @@
+//! Blocks with one byte changed, which are refused. The places are those of `docs/BLOCKS.md`: the blocks of `BOTH_ORDERS` begin at 0, 32,
+//! 192, 248, 424 and 512.
+use crate::asserts::{equal, equal_at};
+use crate::back::blocks_of;
+use fit_encode::{CutSink, EncodeFault};
+use fit_from_messages::{BlockReason, BlocksFault, from_messages};
+use std::alloc::Global;
+use std::process::Abort;
+use test_known::{BOTH_ORDERS, TRUE_ZERO};
+
+/// Asserts the fault of blocks, and that they give no bytes.
+fn refuse(rt: &impl Abort, alloc: Global, blocks: &[u8], fault: BlocksFault) {
+    let mut sink = CutSink::<128>::new(128);
+    let found = from_messages(alloc, blocks, &mut sink);
+    equal_at(rt, &found, &Err(fault), &blocks.len());
+    assert!(rt; sink.bytes().is_empty());
+}
+
+/// Asserts the fault of the blocks of both architectures with one byte changed: the block of this number, which begins at this place.
+fn refuse_changed(
+    rt: &impl Abort,
+    alloc: Global,
+    change: (usize, u8),
+    number: u64,
+    place: u64,
+    reason: BlockReason,
+) {
+    let mut blocks = blocks_of(rt, alloc, &BOTH_ORDERS);
+    equal(rt, &blocks.len(), &536);
+    blocks[change.0 % 536] = change.1;
+    let fault = BlocksFault::Block {
+        number,
+        place,
+        reason,
+    };
+    refuse(rt, alloc, blocks.as_slice(), fault);
+}
+
+#[test]
+fn headers_refused(rt: HostRuntime) {
+    for (change, reason) in [
+        // The length of the first block is 31, and then 16.
+        ((0, 31), BlockReason::Cut),
+        ((0, 16), BlockReason::Cut),
+        // The first block says a definition.
+        ((4, 2), BlockReason::Kind),
+        // Its protocol version is 3.0, or it has a checksum and 13 bytes.
+        ((6, 0x30), BlockReason::Header),
+        ((5, 13), BlockReason::Header),
+    ] {
+        refuse_changed(&rt, rt.alloc(), change, 0, 0, reason);
+    }
+}
+
+#[test]
+fn definitions_refused(rt: HostRuntime) {
+    for (change, reason) in [
+        ((32 + 5, 16), BlockReason::Local),
+        ((32 + 6, 2), BlockReason::Architecture),
+        // There is one field more than there are entries, and one developer field.
+        ((32 + 34, 3), BlockReason::Entries),
+        ((32 + 36, 1), BlockReason::Entries),
+        // The first field is a developer field.
+        ((32 + 48 + 5, 1), BlockReason::Entries),
+        // A number of four bytes has width 2, and then 2 items.
+        ((32 + 48 + 9, 2), BlockReason::Size),
+        ((32 + 48 + 9, 8), BlockReason::Size),
+        // A header in a file.
+        ((32 + 4, 1), BlockReason::Kind),
+    ] {
+        refuse_changed(&rt, rt.alloc(), change, 1, 32, reason);
+    }
+}
+
+#[test]
+fn messages_refused(rt: HostRuntime) {
+    for (change, number, place, reason) in [
+        ((192 + 6, 16), 2, 192, BlockReason::Local),
+        ((192 + 6, 3), 2, 192, BlockReason::Undefined),
+        ((424 + 6, 4), 4, 424, BlockReason::Local),
+        ((424 + 7, 32), 4, 424, BlockReason::Offset),
+        // The four bytes of the timestamp begin at 53 in a block of 56.
+        ((32 + 48 + 12, 53), 2, 192, BlockReason::Items),
+        // The end is no end.
+        ((512 + 4, 5), 5, 512, BlockReason::Kind),
+    ] {
+        refuse_changed(&rt, rt.alloc(), change, number, place, reason);
+    }
+}
+
+#[test]
+fn blocks_missing(rt: HostRuntime) {
+    let blocks = blocks_of(&rt, rt.alloc(), &BOTH_ORDERS);
+    let (unfinished, _) = blocks.as_slice().split_at(512);
+    for (some, number, place) in [(unfinished, 5, 512), ([].as_slice(), 0, 0)] {
+        let reason = BlockReason::Cut;
+        let fault = BlocksFault::Block {
+            number,
+            place,
+            reason,
+        };
+        refuse(&rt, rt.alloc(), some, fault);
+    }
+}
+
+#[test]
+fn zeros_for_a_sum_of_zero(rt: HostRuntime) {
+    let mut blocks = blocks_of(&rt, rt.alloc(), &TRUE_ZERO);
+    blocks[7] = 1;
+    let fault = BlocksFault::Encode(EncodeFault::ZeroIsSum { file: 1 });
+    refuse(&rt, rt.alloc(), blocks.as_slice(), fault);
+}
