@@ -7,10 +7,10 @@ ghost use Rattle.fit_step.specs.Skipping.{size_to_skip, AreSizesToSkip, HeadsMes
 
 use crate::Position;
 use crate::by_bytes::learn_message;
+use crate::header::{has_reserved_bit, is_definition, local_type};
 use crate::read_definition::{definition_bytes, read_fields, with_fields};
 use crate::repeated::is_known;
 use crate::whole::plain_message;
-use fit_record::header::message_header;
 use fit_record::{Env, FIELD_DESCRIPTION, Record};
 use std::alloc::Allocator;
 
@@ -47,8 +47,11 @@ fn sizes_to_skip<A: Allocator>(env: &Env<A>) -> [u32; 16]
 fn message_type(bytes: &[u8]) -> Option<u8>
     ensures { IfSome result (HeadsMessage bytes.now) }
 {
-    let (local, _) = message_header(*bytes.first()?)?;
-    Some(local)
+    let byte = *bytes.first()?;
+    if has_reserved_bit(byte) || is_definition(byte) {
+        return None;
+    }
+    Some(local_type(byte))
 }
 
 /// How many bytes the data message has that begins these bytes, where it may be skipped and all of it stands there, or else 0.
@@ -68,9 +71,7 @@ fn message_to_skip(sizes: &[u32; 16], bytes: &[u8]) -> usize
 }
 
 /// Learns the definition message that begins these bytes, where all of it stands there and it has no developer fields: how many
-/// bytes it has, or else 0. One that is known already takes no memory. It stands apart, so that its comparisons have the registers to
-/// themselves.
-#[inline(never)]
+/// bytes it has, or else 0. One that is known already takes no memory.
 fn skip_definition<A: Allocator + Copy>(
     alloc: A,
     env: &mut Env<A>,
