@@ -16,7 +16,7 @@ use Rattle.fit_from_messages.specs.declared.fault.BlockReason.TheVariants as why
 use Rattle.fit_from_messages.specs.declared.file.OpenFile.{OpenFile}
 use Rattle.fit_from_messages.specs.declared.misfit.Misfit.{Misfit}
 use Rattle.fit_from_messages.specs.declared.misfit.Misfit.TheVariants as misfit
-use Rattle.fit_from_messages.specs.inner.Chains.{AreSaid, HasSaid, IsUnreadBlock, IsGoodChain, IsSoundCurrent, fault_at, said_so_far}
+use Rattle.fit_from_messages.specs.inner.Chains.{AreSaid, HasSaid, IsUnreadBlock, IsGoodChain, MayBeCurrent, fault_at, said_so_far}
 use Rattle.fit_from_messages.specs.inner.Misfits.{IsMisfitBlock}
 use Rattle.fit_from_messages.specs.inner.OpenFiles.{begun_file}
 
@@ -144,5 +144,5 @@ all_said bytes rest n c h empty none some = record {
     some = some;
   };
   each = h.sound.files;
-  few = subst (IsSoundCurrent (length c.files)) none h.sound.current;
+  few = subst (MayBeCurrent (length c.files)) none h.sound.current;
 }

@@ -26,13 +26,13 @@ pub record IsSaidFile (f : FitFile Global) : Type 0 where
   pub fit : AllFit empty_environment f.records
 
 -- there may be one more file
-abbrev pub IsSoundCurrent : ℕ → Option OpenFile → Type 0
-IsSoundCurrent count None = count ≤ chain_limit
-IsSoundCurrent count (Some f) = (count < chain_limit) × IsGoodFile f
+abbrev pub MayBeCurrent : ℕ → Option OpenFile → Type 0
+MayBeCurrent count None = count ≤ chain_limit
+MayBeCurrent count (Some f) = (count < chain_limit) × IsGoodFile f
 
 pub record IsGoodChain (c : Chain) : Type 0 where
   pub files : AllByRecursion IsSaidFile c.files
-  pub current : IsSoundCurrent (length c.files) c.current
+  pub current : MayBeCurrent (length c.files) c.current
 
 -- That many blocks have come, and these bytes are left of all.
 pub record HasSaid (bytes rest : List ℕ) (count : ℕ) (c : Chain) : Type 0 where
