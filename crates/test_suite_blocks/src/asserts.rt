@@ -12,8 +12,3 @@ pub fn equal<T: PartialEq + Debug>(rt: &impl Abort, found: &T, wanted: &T) {
 pub fn equal_at<T: PartialEq + Debug, P: Debug>(rt: &impl Abort, found: &T, wanted: &T, place: &P) {
     assert_eq!(rt; *found, *wanted, "at {place:?}");
 }
-
-/// Asserts what holds at some place.
-pub fn holds_at<P: Debug>(rt: &impl Abort, holds: bool, place: &P) {
-    assert!(rt; holds, "at {place:?}");
-}

@@ -16,18 +16,24 @@ fn refuse(rt: &impl Abort, alloc: Global, blocks: &[u8], fault: BlocksFault) {
     assert!(rt; sink.bytes().is_empty());
 }
 
+/// Changes the byte at a place.
+fn change(rt: &impl Abort, bytes: &mut [u8], place: usize, value: u8) {
+    assert!(rt; place < bytes.len());
+    bytes[place] = value;
+}
+
 /// Asserts the fault of the blocks of both architectures with one byte changed: the block of this number, which begins at this place.
 fn refuse_changed(
     rt: &impl Abort,
     alloc: Global,
-    change: (usize, u8),
+    (at, value): (usize, u8),
     number: u64,
     place: u64,
     reason: BlockReason,
 ) {
     let mut blocks = blocks_of(rt, alloc, &BOTH_ORDERS);
     equal(rt, &blocks.len(), &536);
-    blocks[change.0 % 536] = change.1;
+    change(rt, blocks.as_mut_slice(), at, value);
     let fault = BlocksFault::Block {
         number,
         place,
@@ -38,7 +44,7 @@ fn refuse_changed(
 
 #[test]
 fn headers_refused(rt: HostRuntime) {
-    for (change, reason) in [
+    for (changed, reason) in [
         // The length of the first block is 31, and then 16.
         ((0, 31), BlockReason::Cut),
         ((0, 16), BlockReason::Cut),
@@ -48,13 +54,13 @@ fn headers_refused(rt: HostRuntime) {
         ((6, 0x30), BlockReason::Header),
         ((5, 13), BlockReason::Header),
     ] {
-        refuse_changed(&rt, rt.alloc(), change, 0, 0, reason);
+        refuse_changed(&rt, rt.alloc(), changed, 0, 0, reason);
     }
 }
 
 #[test]
 fn definitions_refused(rt: HostRuntime) {
-    for (change, reason) in [
+    for (changed, reason) in [
         ((32 + 5, 16), BlockReason::Local),
         ((32 + 6, 2), BlockReason::Architecture),
         // There is one field more than there are entries, and one developer field.
@@ -68,13 +74,13 @@ fn definitions_refused(rt: HostRuntime) {
         // A header in a file.
         ((32 + 4, 1), BlockReason::Kind),
     ] {
-        refuse_changed(&rt, rt.alloc(), change, 1, 32, reason);
+        refuse_changed(&rt, rt.alloc(), changed, 1, 32, reason);
     }
 }
 
 #[test]
 fn messages_refused(rt: HostRuntime) {
-    for (change, number, place, reason) in [
+    for (changed, number, place, reason) in [
         ((192 + 6, 16), 2, 192, BlockReason::Local),
         ((192 + 6, 3), 2, 192, BlockReason::Undefined),
         ((424 + 6, 4), 4, 424, BlockReason::Local),
@@ -84,14 +90,16 @@ fn messages_refused(rt: HostRuntime) {
         // The end is no end.
         ((512 + 4, 5), 5, 512, BlockReason::Kind),
     ] {
-        refuse_changed(&rt, rt.alloc(), change, number, place, reason);
+        refuse_changed(&rt, rt.alloc(), changed, number, place, reason);
     }
 }
 
 #[test]
 fn blocks_missing(rt: HostRuntime) {
     let blocks = blocks_of(&rt, rt.alloc(), &BOTH_ORDERS);
-    let (unfinished, _) = blocks.as_slice().split_at(512);
+    let all = blocks.as_slice();
+    assert!(rt; all.len() == 536);
+    let (unfinished, _) = all.split_at(512);
     for (some, number, place) in [(unfinished, 5, 512), ([].as_slice(), 0, 0)] {
         let reason = BlockReason::Cut;
         let fault = BlocksFault::Block {
@@ -106,7 +114,7 @@ fn blocks_missing(rt: HostRuntime) {
 #[test]
 fn zeros_for_a_sum_of_zero(rt: HostRuntime) {
     let mut blocks = blocks_of(&rt, rt.alloc(), &TRUE_ZERO);
-    blocks[7] = 1;
+    change(&rt, blocks.as_mut_slice(), 7, 1);
     let fault = BlocksFault::Encode(EncodeFault::ZeroIsSum { file: 1 });
     refuse(&rt, rt.alloc(), blocks.as_slice(), fault);
 }
