@@ -5,6 +5,7 @@ ghost use Rattle.fit_record.specs.Files.{chain_limit, IsViable};
 ghost use Rattle.fit_chain.specs.Checks.{AreChain};
 ghost use Rattle.fit_stream.specs.Streams.{StreamNow};
 ghost use Rattle.fit_stream.specs.declared.kind.Kind.{Kind as Kinds};
+ghost use Rattle.fit_stream.specs.declared.kind.Kind.TheVariants as kinds;
 ghost use Rattle.fit_c.specs.Answers.{status_alone};
 ghost use Rattle.fit_c.specs.Streams.{begun, EndsStream, FeedsStream, stream_kind, stream_answer};
 
@@ -41,11 +42,61 @@ fn answer_for_stream(answered: Result<u64, ReportFault>) -> FitAnswer
 }
 
 /// Makes a stream of a kind, and keeps it in a box.
-fn made(alloc: Global, kind: Kind) -> Option<Box<Stream>>
+#[inline(always)]
+fn boxed(alloc: Global, kind: Kind) -> Option<Box<Stream>>
     ensures { IfSome result (λ b. b.value ≡ begun kind) }
 {
     let stream = Stream::new(alloc, kind)?;
     Box::new(alloc, stream).ok()
+}
+
+#[inline(never)]
+fn boxed_check(alloc: Global) -> Option<Box<Stream>>
+    ensures { IfSome result (λ b. b.value ≡ begun kinds.Check) }
+{
+    boxed(alloc, Kind::Check)
+}
+
+#[inline(never)]
+fn boxed_show(alloc: Global) -> Option<Box<Stream>>
+    ensures { IfSome result (λ b. b.value ≡ begun kinds.Show) }
+{
+    boxed(alloc, Kind::Show)
+}
+
+#[inline(never)]
+fn boxed_table(alloc: Global) -> Option<Box<Stream>>
+    ensures { IfSome result (λ b. b.value ≡ begun kinds.Table) }
+{
+    boxed(alloc, Kind::Table)
+}
+
+#[inline(never)]
+fn boxed_rows(alloc: Global) -> Option<Box<Stream>>
+    ensures { IfSome result (λ b. b.value ≡ begun kinds.Rows) }
+{
+    boxed(alloc, Kind::Rows)
+}
+
+#[inline(never)]
+fn boxed_messages(alloc: Global) -> Option<Box<Stream>>
+    ensures { IfSome result (λ b. b.value ≡ begun kinds.Messages) }
+{
+    boxed(alloc, Kind::Messages)
+}
+
+/// Makes a stream of a kind, and keeps it in a box. It takes the stack of that kind alone: a stream has some kilobytes, and is copied on
+/// its way into the box.
+fn made(alloc: Global, kind: Kind) -> Option<Box<Stream>>
+    ensures { IfSome result (λ b. b.value ≡ begun kind) }
+{
+    match kind {
+        Kind::Check => boxed_check(alloc),
+        Kind::Show => boxed_show(alloc),
+        Kind::Table => boxed_table(alloc),
+        Kind::Rows => boxed_rows(alloc),
+        Kind::Messages => boxed_messages(alloc),
+    }
 }
 
 /// The answer for a stream that is closed, which hands out nothing.

@@ -52,6 +52,7 @@ impl Model for Stream {
 
 impl Stream {
     /// Nothing was fed, and nothing handed out. `None` where memory is refused.
+    #[inline(always)]
     pub fn new(alloc: Global, kind: Kind) -> Option<Self>
         ensures { IfSome result (λ s. s ≡ record {
           kind = kind;
