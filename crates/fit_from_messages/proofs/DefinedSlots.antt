@@ -21,7 +21,7 @@ use Rattle.fit_from_messages.proofs.ReadNumbers.{number_at_below}
 use Rattle.fit_from_messages.specs.declared.fault.BlockReason.TheVariants.{Size}
 use Rattle.fit_from_messages.proofs.SoundFiles.{defined_then, sound_definition}
 use Rattle.fit_from_messages.specs.declared.file.OpenFile.{OpenFile}
-use Rattle.fit_from_messages.specs.inner.OpenFiles.{IsGoodFile, begun_file}
+use Rattle.fit_from_messages.specs.inner.OpenFiles.{IsGoodFile, begun_of}
 use Rattle.fit_record.specs.declared.definition.MessageDef.{MessageDef}
 use Rattle.fit_record.specs.declared.environment.Defined.{Defined}
 use Rattle.fit_record.specs.declared.message.Record.TheVariants.{Define}
@@ -218,13 +218,13 @@ module _ (f : OpenFile) (block : List ℕ) (env : Environment Global) (slots : L
 
   pub tested : (result : Bool)
       → ((p : Defined Global) → defined_at env (byte_at 5 block) ≡ Some p → result ≡ widths_fit (dev_layout p) (drop (length p.definition.fields) slots))
-      → list_all (λ x. size_fits (dev_code (known_to (begun_file f)) (dev_in x)) x) (dev_entries block) ≡ result
+      → list_all (λ x. size_fits (dev_code (known_to (begun_of f)) (dev_in x)) x) (dev_entries block) ≡ result
   tested result test =
       let p = defined_by f.env (definition_in block) in
       ap (λ e. list_all (λ x. size_fits (dev_code e (dev_in x)) x) (dev_entries block)) (sym sound.known)
       ∙ sym (test p defined ∙ ap (λ ss. widths_fit (dev_layout p) (drop (length p.definition.fields) ss)) told ∙ dev_sizes f.env block r)
 
-  pub sound_then : (g : OpenFile) → list_all (λ x. size_fits (dev_code (known_to (begun_file f)) (dev_in x)) x) (dev_entries block) ≡ true
+  pub sound_then : (g : OpenFile) → list_all (λ x. size_fits (dev_code (known_to (begun_of f)) (dev_in x)) x) (dev_entries block) ≡ true
       → g.header ≡ f.header → g.records ≡ f.records ++ Define definition ∷ [] → g.env ≡ env → g.slots ≡ slice_set f.slots (byte_at 5 block) slots
       → IsGoodFile g
   sound_then g fit header records same set_slots =

@@ -16,9 +16,9 @@ use Rattle.fit_from_messages.specs.declared.fault.BlockReason.TheVariants as why
 use Rattle.fit_from_messages.specs.declared.file.OpenFile.{OpenFile}
 use Rattle.fit_from_messages.specs.declared.misfit.Misfit.{Misfit}
 use Rattle.fit_from_messages.specs.declared.misfit.Misfit.TheVariants as misfit
-use Rattle.fit_from_messages.specs.inner.Chains.{AreSaid, HasSaid, IsUnreadBlock, IsGoodChain, MayBeCurrent, fault_at, said_so_far}
+use Rattle.fit_from_messages.specs.inner.Chains.{AreSaid, HasSaid, IsUnreadBlock, IsGoodChain, IsGoodCurrent, fault_at, said_yet}
 use Rattle.fit_from_messages.specs.inner.Misfits.{IsMisfitBlock}
-use Rattle.fit_from_messages.specs.inner.OpenFiles.{begun_file}
+use Rattle.fit_from_messages.specs.inner.OpenFiles.{begun_of}
 
 -- ---- one block more
 
@@ -34,11 +34,11 @@ joined_more blocks block left =
     ∙ ap (λ x. joined_blocks blocks ++ x) (append-nil block)) ∙ append_assoc (joined_blocks blocks) block left
 
 pub one_said : (bytes rest block left : List ℕ) (n : ℕ) (c d : Chain) → HasSaid bytes rest n c → IsBlock block → rest ≡ block ++ left
-    → reason (said_so_far c) block ≡ None → said_so_far d ≡ after (said_so_far c) block → IsGoodChain d → HasSaid bytes left (n + 1) d
+    → reason (said_yet c) block ≡ None → said_yet d ≡ after (said_yet c) block → IsGoodChain d → HasSaid bytes left (n + 1) d
 one_said bytes rest block left n c d h is begins stands then sound = record {
   blocks = h.blocks ++ block ∷ [];
   are_joined = h.are_joined ∙ ap (λ x. joined_blocks h.blocks ++ x) begins ∙ sym (joined_more h.blocks block left);
-  say = subst (Say nothing_said (h.blocks ++ block ∷ [])) (sym then) (say_more nothing_said (said_so_far c) h.blocks block h.say is stands);
+  say = subst (Say nothing_said (h.blocks ++ block ∷ [])) (sym then) (say_more nothing_said (said_yet c) h.blocks block h.say is stands);
   counted = omega (arith, h.counted, length-append h.blocks (block ∷ []));
   few = omega (arith, h.few, ap length begins, length-append block left, is.front);
   sound = sound;
@@ -50,11 +50,11 @@ shorter rest block left is begins = omega (arith, ap length begins, length-appen
 -- ---- a block that can't stand where it is
 
 pub refused : (bytes rest : List ℕ) (n place : ℕ) (c : Chain) (reason : BlockReason) → HasSaid bytes rest n c → place ≡ length bytes - length rest
-    → CannotGoOn (said_so_far c) rest reason → IsRefusedBlock bytes n place reason
+    → CannotGoOn (said_yet c) rest reason → IsRefusedBlock bytes n place reason
 refused bytes rest n place c reason h at wrong = record {
   blocks = h.blocks;
   rest = rest;
-  said = said_so_far c;
+  said = said_yet c;
   are_joined = h.are_joined;
   say = h.say;
   counted = h.counted;
@@ -105,9 +105,9 @@ goes_wrong s rest block left why.Cut begins is bad = absurd (never_cut s block b
 goes_wrong s rest block left x begins is bad = (block, left, begins, is, bad)
 
 pub misfit_fault : (bytes rest block left : List ℕ) (n place : ℕ) (c : Chain) (m : Misfit) → HasSaid bytes rest n c → place ≡ length bytes - length rest
-    → rest ≡ block ++ left → IsBlock block → IsMisfitBlock (reason (said_so_far c) block) m → IsUnreadBlock bytes (fault_at n place m)
+    → rest ≡ block ++ left → IsBlock block → IsMisfitBlock (reason (said_yet c) block) m → IsUnreadBlock bytes (fault_at n place m)
 misfit_fault bytes rest block left n place c (misfit.Block x) h at begins is bad =
-    refused bytes rest n place c x h at (goes_wrong (said_so_far c) rest block left x begins is bad)
+    refused bytes rest n place c x h at (goes_wrong (said_yet c) rest block left x begins is bad)
 misfit_fault bytes rest block left n place c misfit.NoMemory h at begins is bad = tt
 
 pub cut_here : (bytes rest : List ℕ) (n place : ℕ) (c : Chain) → HasSaid bytes rest n c → place ≡ length bytes - length rest → 0 < length rest
@@ -120,10 +120,10 @@ none_left : (rest : List ℕ) → length rest ≡ 0 → rest ≡ []
 none_left [] empty = refl
 none_left (b ∷ rest) empty = absurd (omega (arith, empty))
 
-said_none : (c : Chain) → option_map begun_file c.current ≡ None → c.current ≡ None
+said_none : (c : Chain) → option_map begun_of c.current ≡ None → c.current ≡ None
 said_none c none = go c.current none
   where
-    go : (o : Option OpenFile) → option_map begun_file o ≡ None → o ≡ None
+    go : (o : Option OpenFile) → option_map begun_of o ≡ None → o ≡ None
     go None e = refl
     go (Some f) e = cc e
 
@@ -131,7 +131,7 @@ pub cut_off : (bytes rest : List ℕ) (n : ℕ) (c : Chain) → HasSaid bytes re
     → (c.current ≡ None → 0 < length c.files → ⊥) → IsRefusedBlock bytes n (length bytes) why.Cut
 cut_off bytes rest n c h empty unfinished =
     refused bytes rest n (length bytes) c why.Cut h (omega (arith, empty))
-    (subst (λ r. CannotGoOn (said_so_far c) r why.Cut) (sym (none_left rest empty))
+    (subst (λ r. CannotGoOn (said_yet c) r why.Cut) (sym (none_left rest empty))
     ((λ block more e is. no_block block more is e), λ _ none some. unfinished (said_none c none) some))
 
 pub all_said : (bytes rest : List ℕ) (n : ℕ) (c : Chain) → HasSaid bytes rest n c → length rest ≡ 0 → c.current ≡ None → 0 < length c.files
@@ -140,9 +140,9 @@ all_said bytes rest n c h empty none some = record {
   says = record {
     blocks = h.blocks;
     are_joined = h.are_joined ∙ ap (λ x. joined_blocks h.blocks ++ x) (none_left rest empty) ∙ append-nil (joined_blocks h.blocks);
-    say = subst (Say nothing_said h.blocks) (ap (λ (o : Option OpenFile). record { files = c.files; current = option_map begun_file o }) none) h.say;
+    say = subst (Say nothing_said h.blocks) (ap (λ (o : Option OpenFile). record { files = c.files; current = option_map begun_of o }) none) h.say;
     some = some;
   };
   each = h.sound.files;
-  few = subst (MayBeCurrent (length c.files)) none h.sound.current;
+  few = subst (IsGoodCurrent (length c.files)) none h.sound.current;
 }

@@ -3,9 +3,9 @@ ghost use Rattle.std.specs.Prelude.{◌≡◌, ◌↔◌, ◌<◌, ◌∷◌, �
 ghost use Rattle.fit_encode.specs.Encoding.{file_of};
 ghost use Rattle.fit_frame.specs.Header.{FormFits};
 ghost use Rattle.fit_from_messages.specs.SaysChain.{IsBlock, after, nothing_said, reason};
-ghost use Rattle.fit_from_messages.specs.inner.Chains.{IsGoodChain, said_so_far};
+ghost use Rattle.fit_from_messages.specs.inner.Chains.{IsGoodChain, said_yet};
 ghost use Rattle.fit_from_messages.specs.inner.Misfits.{IsMisfitBlock};
-ghost use Rattle.fit_from_messages.specs.inner.OpenFiles.{IsGoodFile, begun_file};
+ghost use Rattle.fit_from_messages.specs.inner.OpenFiles.{IsGoodFile, begun_of};
 
 use crate::BlockReason;
 use crate::file::{OpenFile, SlotLists};
@@ -87,7 +87,7 @@ impl CurrentFile {
     /// A file with this header begins.
     fn begin(&mut self, alloc: Global, header: Header)
         requires { FormFits header }
-        ensures begun { IsSomeAnd self.new (λ f. begun_file f
+        ensures begun { IsSomeAnd self.new (λ f. begun_of f
             ≡ record { header = header; records = []; slots = replicate 16 [] }) }
         ensures sound { IsSomeAnd self.new IsGoodFile }
     {
@@ -109,7 +109,7 @@ pub(crate) struct Chain {
 impl Chain {
     /// Nothing has come.
     pub(crate) fn new(alloc: Global) -> Chain
-        ensures nothing { said_so_far result ≡ nothing_said }
+        ensures nothing { said_yet result ≡ nothing_said }
         ensures sound { IsGoodChain result }
     {
         Chain {
@@ -124,10 +124,10 @@ impl Chain {
         requires sound { IsGoodChain self.old }
         requires none { self.old.current ≡ None }
         requires block { IsBlock block.now }
-        ensures stands { OnOk result (reason (said_so_far self.old) block.now ≡ None) }
-        ensures after { OnOk result (said_so_far self.new ≡ after (said_so_far self.old) block.now) }
+        ensures stands { OnOk result (reason (said_yet self.old) block.now ≡ None) }
+        ensures after { OnOk result (said_yet self.new ≡ after (said_yet self.old) block.now) }
         ensures sound { OnOk result (IsGoodChain self.new) }
-        ensures err { IfErr result (IsMisfitBlock (reason (said_so_far self.old) block.now)) }
+        ensures err { IfErr result (IsMisfitBlock (reason (said_yet self.old) block.now)) }
     {
         if block[4] != 1 || !self.files.has_room() {
             return Err(Misfit::Block(BlockReason::Kind));
@@ -158,10 +158,10 @@ impl Chain {
         requires sound { IsGoodChain self.old }
         requires some { self.old.current ≡ None → ⊥ }
         requires block { IsBlock block.now }
-        ensures stands { OnOk result (reason (said_so_far self.old) block.now ≡ None) }
-        ensures after { OnOk result (said_so_far self.new ≡ after (said_so_far self.old) block.now) }
+        ensures stands { OnOk result (reason (said_yet self.old) block.now ≡ None) }
+        ensures after { OnOk result (said_yet self.new ≡ after (said_yet self.old) block.now) }
         ensures sound { OnOk result (IsGoodChain self.new) }
-        ensures err { IfErr result (IsMisfitBlock (reason (said_so_far self.old) block.now)) }
+        ensures err { IfErr result (IsMisfitBlock (reason (said_yet self.old) block.now)) }
     {
         match block[4] {
             2 => self.current.file.take_definition(alloc, block),
@@ -178,10 +178,10 @@ impl Chain {
     pub(crate) fn take_block(&mut self, alloc: Global, block: &[u8]) -> Result<(), Misfit>
         requires sound { IsGoodChain self.old }
         requires block { IsBlock block.now }
-        ensures stands { OnOk result (reason (said_so_far self.old) block.now ≡ None) }
-        ensures after { OnOk result (said_so_far self.new ≡ after (said_so_far self.old) block.now) }
+        ensures stands { OnOk result (reason (said_yet self.old) block.now ≡ None) }
+        ensures after { OnOk result (said_yet self.new ≡ after (said_yet self.old) block.now) }
         ensures sound { OnOk result (IsGoodChain self.new) }
-        ensures err { IfErr result (IsMisfitBlock (reason (said_so_far self.old) block.now)) }
+        ensures err { IfErr result (IsMisfitBlock (reason (said_yet self.old) block.now)) }
     {
         if self.current.is_none() {
             self.begin_file(alloc, block)

@@ -8,7 +8,7 @@ ghost use Rattle.fit_record.specs.Records.{DefinitionFits, dev_layout};
 ghost use Rattle.fit_from_messages.specs.SaysChain.{after_definition, after_message, why_no_definition, why_no_message};
 ghost use Rattle.fit_from_messages.specs.inner.Cutting.{widths_fit};
 ghost use Rattle.fit_from_messages.specs.inner.Misfits.{IsMisfitBlock};
-ghost use Rattle.fit_from_messages.specs.inner.OpenFiles.{IsGoodFile, begun_file};
+ghost use Rattle.fit_from_messages.specs.inner.OpenFiles.{IsGoodFile, begun_of};
 
 use crate::BlockReason;
 use crate::definition::read_definition;
@@ -120,11 +120,12 @@ impl OpenFile {
     pub(crate) fn take_definition(&mut self, alloc: Global, block: &[u8]) -> Result<(), Misfit>
         requires sound { IsGoodFile self.old }
         requires front { 24 ≤ length block.now }
-        ensures stands { OnOk result (why_no_definition (begun_file self.old) block.now ≡ None) }
+        ensures stands { OnOk result (why_no_definition (begun_of self.old) block.now ≡ None) }
         ensures after { OnOk result
-            (begun_file self.new ≡ after_definition (begun_file self.old) block.now) }
+            (begun_of self.new ≡ after_definition (begun_of self.old) block.now) }
         ensures sound { OnOk result (IsGoodFile self.new) }
-        ensures err { IfErr result (IsMisfitBlock (why_no_definition (begun_file self.old) block.now)) }
+        ensures err { IfErr result
+            (IsMisfitBlock (why_no_definition (begun_of self.old) block.now)) }
     {
         let mut slots = Entries::new(alloc);
         let definition = read_definition(alloc, &mut slots, block)?;
@@ -140,10 +141,12 @@ impl OpenFile {
     pub(crate) fn take_message(&mut self, block: &[u8]) -> Result<(), Misfit>
         requires sound { IsGoodFile self.old }
         requires front { 24 ≤ length block.now }
-        ensures stands { OnOk result (why_no_message (begun_file self.old) block.now ≡ None) }
-        ensures after { OnOk result (begun_file self.new ≡ after_message (begun_file self.old) block.now) }
+        ensures stands { OnOk result (why_no_message (begun_of self.old) block.now ≡ None) }
+        ensures after { OnOk result
+            (begun_of self.new ≡ after_message (begun_of self.old) block.now) }
         ensures sound { OnOk result (IsGoodFile self.new) }
-        ensures err { IfErr result (IsMisfitBlock (why_no_message (begun_file self.old) block.now)) }
+        ensures err { IfErr result
+            (IsMisfitBlock (why_no_message (begun_of self.old) block.now)) }
     {
         let slots = slots_at(&self.slots, block[6]);
         let end = spell_message(&mut self.message, &self.env, slots, block)?;

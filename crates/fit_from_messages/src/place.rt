@@ -83,7 +83,8 @@ fn place_turned(bytes: &mut [u8], at: usize, source: &[u8], width: u8, count: u8
     ensures size { length bytes.new ≡ length bytes.old }
     ensures end { result ≡ at + count * width }
     ensures text { take result bytes.new ≡ take at bytes.old
-        ++ flat_map (number_bytes Order.Big width) (numbers_of Order.Little width count source.now) }
+        ++ flat_map (number_bytes Order.Big width)
+        (numbers_of Order.Little width count source.now) }
 {
     let mut end = at;
     let mut rest = source;

@@ -14,11 +14,11 @@ use Rattle.fit_from_messages.specs.declared.fault.BlocksFault.TheVariants.{Block
 use Rattle.fit_from_messages.specs.declared.misfit.Misfit.{Misfit}
 use Rattle.fit_from_messages.specs.declared.misfit.Misfit.TheVariants as misfit
 use Rattle.fit_from_messages.specs.declared.file.OpenFile.{OpenFile}
-use Rattle.fit_from_messages.specs.inner.OpenFiles.{IsGoodFile, begun_file}
+use Rattle.fit_from_messages.specs.inner.OpenFiles.{IsGoodFile, begun_of}
 
 -- what blocks have said
-abbrev pub said_so_far : Chain → Said
-said_so_far c = record { files = c.files; current = option_map begun_file c.current }
+abbrev pub said_yet : Chain → Said
+said_yet c = record { files = c.files; current = option_map begun_of c.current }
 
 -- a file that blocks can say: nothing but the length of its data, or zeros for a sum of 0, can be wrong with it
 pub record IsSaidFile (f : FitFile Global) : Type 0 where
@@ -26,19 +26,19 @@ pub record IsSaidFile (f : FitFile Global) : Type 0 where
   pub fit : AllFit empty_environment f.records
 
 -- there may be one more file
-abbrev pub MayBeCurrent : ℕ → Option OpenFile → Type 0
-MayBeCurrent count None = count ≤ chain_limit
-MayBeCurrent count (Some f) = (count < chain_limit) × IsGoodFile f
+abbrev pub IsGoodCurrent : ℕ → Option OpenFile → Type 0
+IsGoodCurrent count None = count ≤ chain_limit
+IsGoodCurrent count (Some f) = (count < chain_limit) × IsGoodFile f
 
 pub record IsGoodChain (c : Chain) : Type 0 where
   pub files : AllByRecursion IsSaidFile c.files
-  pub current : MayBeCurrent (length c.files) c.current
+  pub current : IsGoodCurrent (length c.files) c.current
 
 -- That many blocks have come, and these bytes are left of all.
 pub record HasSaid (bytes rest : List ℕ) (count : ℕ) (c : Chain) : Type 0 where
   pub blocks : List (List ℕ)
   pub are_joined : bytes ≡ joined_blocks blocks ++ rest
-  pub say : Say nothing_said blocks (said_so_far c)
+  pub say : Say nothing_said blocks (said_yet c)
   pub counted : count ≡ length blocks
   pub few : count + length rest ≤ length bytes
   pub sound : IsGoodChain c

@@ -8,8 +8,8 @@ use Rattle.fit_from_messages.specs.declared.file.OpenFile.{OpenFile}
 use Rattle.fit_from_messages.specs.inner.Slots.{SlotsFit}
 
 -- what blocks have said of the file
-abbrev pub begun_file : OpenFile → Begun
-begun_file f = record { header = f.header; records = f.records; slots = f.slots }
+abbrev pub begun_of : OpenFile → Begun
+begun_of f = record { header = f.header; records = f.records; slots = f.slots }
 
 -- What its records define is known, and the items of messages have the shapes that are defined.
 pub record IsGoodFile (f : OpenFile) : Type 0 where

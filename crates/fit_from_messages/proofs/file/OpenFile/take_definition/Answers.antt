@@ -4,14 +4,14 @@ use Rattle.std.specs.Prelude.{slice_set}
 use Rattle.fit_base.proofs.ByteLists.{slice_is_bytes}
 use Rattle.fit_record.specs.Records.{DefinitionFits}
 use Rattle.fit_from_messages.specs.Parts.{byte_at}
-use Rattle.fit_from_messages.specs.inner.OpenFiles.{begun_file}
+use Rattle.fit_from_messages.specs.inner.OpenFiles.{begun_of}
 use Rattle.fit_from_messages.proofs.DefinedSlots.{asked, definition_fits, fails_by, sound_then, stands_by, tested}
 use Rattle.fit_from_messages.proofs.file.OpenFile.take_definition.Goals as goal
 
 pub returns-in_err-definition-clause-err : goal.returns-in_err-definition-clause-err
 returns-in_err-definition-clause-err c =
     let p = err_from_is_err_and c.from_residual.result c.from_residual.ensures.1 in
-    rw (p.1, p.2) (c.in_err-definition.ensures.err (begun_file c.args.self.now))
+    rw (p.1, p.2) (c.in_err-definition.ensures.err (begun_of c.args.self.now))
 
 pub add_definition-requires-clause-fits : goal.add_definition-requires-clause-fits
 add_definition-requires-clause-fits c =
@@ -25,7 +25,7 @@ dev_widths_fit-requires c = asked c.args.self.now c.args.block.now c.add_definit
 
 pub returns-then-not-dev_widths_fit-clause-err : goal.returns-then-not-dev_widths_fit-clause-err
 returns-then-not-dev_widths_fit-clause-err c =
-    fails_by (begun_file c.args.self.now) c.args.block.now c.in_ok-definition.ensures.readable
+    fails_by (begun_of c.args.self.now) c.args.block.now c.in_ok-definition.ensures.readable
     (tested c.args.self.now c.args.block.now c.add_definition.new.env c.as_slice.result.now c.in_ok-definition.definition c.requires.sound
     c.in_ok-definition.ensures.readable (slice_is_bytes c.args.block.now c.type_inv.block) c.in_ok-definition.ensures.definition (search rules)
     (c.as_slice.ensures ∙ c.in_ok-definition.ensures.slots) c.dev_widths_fit.result c.dev_widths_fit.ensures
@@ -33,7 +33,7 @@ returns-then-not-dev_widths_fit-clause-err c =
 
 pub returns-clause-stands : goal.returns-clause-stands
 returns-clause-stands c =
-    stands_by (begun_file c.args.self.now) c.args.block.now c.in_ok-definition.ensures.readable
+    stands_by (begun_of c.args.self.now) c.args.block.now c.in_ok-definition.ensures.readable
     (tested c.args.self.now c.args.block.now c.add_definition.new.env c.as_slice.result.now c.in_ok-definition.definition c.requires.sound
     c.in_ok-definition.ensures.readable (slice_is_bytes c.args.block.now c.type_inv.block) c.in_ok-definition.ensures.definition (search rules)
     (c.as_slice.ensures ∙ c.in_ok-definition.ensures.slots) c.dev_widths_fit.result c.dev_widths_fit.ensures

@@ -5,18 +5,18 @@ use Rattle.fit_record.specs.Records.{IsRecord}
 use Rattle.fit_record.specs.declared.message.Record.{Record}
 use Rattle.fit_record.specs.declared.message.Record.TheVariants.{Values as Data}
 use Rattle.fit_from_messages.specs.SaysChain.{message_said}
-use Rattle.fit_from_messages.specs.inner.OpenFiles.{begun_file}
+use Rattle.fit_from_messages.specs.inner.OpenFiles.{begun_of}
 use Rattle.fit_from_messages.proofs.SoundFiles.{sound_message}
 use Rattle.fit_from_messages.proofs.file.OpenFile.take_message.Goals as goal
 
 pub returns-in_err-end-clause-err : goal.returns-in_err-end-clause-err
 returns-in_err-end-clause-err c =
     let p = err_from_is_err_and c.from_residual.result c.from_residual.ensures.1 in
-    rw (p.1, p.2) (c.in_err-end.ensures.err (begun_file c.args.self.now) (sym c.requires.sound.known, sym c.slots_at-slots.ensures))
+    rw (p.1, p.2) (c.in_err-end.ensures.err (begun_of c.args.self.now) (sym c.requires.sound.known, sym c.slots_at-slots.ensures))
 
 pub push_message-requires-clause-message : goal.push_message-requires-clause-message
 push_message-requires-clause-message c =
-    let f = begun_file c.args.self.now in
+    let f = begun_of c.args.self.now in
     let v = message_said f c.args.block.now in (
       v,
       subst (λ x. IsRecord c.args.self.now.env (Data v) x) (search rules)
@@ -25,7 +25,7 @@ push_message-requires-clause-message c =
 
 pub learn_message-requires : goal.learn_message-requires
 learn_message-requires c =
-    let f = begun_file c.args.self.now in
+    let f = begun_of c.args.self.now in
     let v = message_said f c.args.block.now in (
       v,
       subst (λ x. IsRecord c.args.self.now.env (Data v) x) (search rules)
@@ -33,11 +33,11 @@ learn_message-requires c =
     )
 
 pub returns-clause-stands : goal.returns-clause-stands
-returns-clause-stands c = c.in_ok-end.ensures.stands (begun_file c.args.self.now) (sym c.requires.sound.known, sym c.slots_at-slots.ensures)
+returns-clause-stands c = c.in_ok-end.ensures.stands (begun_of c.args.self.now) (sym c.requires.sound.known, sym c.slots_at-slots.ensures)
 
 pub returns-clause-after : goal.returns-clause-after
 returns-clause-after c =
-    let f = begun_file c.args.self.now in
+    let f = begun_of c.args.self.now in
     let v = message_said f c.args.block.now in
     let is : IsRecord c.args.self.now.env (Data v) c.split_at.result.0.now =
     subst (λ x. IsRecord c.args.self.now.env (Data v) x) (search rules)
@@ -46,7 +46,7 @@ returns-clause-after c =
 
 pub returns-clause-sound : goal.returns-clause-sound
 returns-clause-sound c =
-    let f = begun_file c.args.self.now in
+    let f = begun_of c.args.self.now in
     let v = message_said f c.args.block.now in
     let is : IsRecord c.args.self.now.env (Data v) c.split_at.result.0.now =
     subst (λ x. IsRecord c.args.self.now.env (Data v) x) (search rules)
