@@ -14,7 +14,7 @@ extern "C" {
 
 /* Sets item k of a field, counted from 0, to what gazhdor_raw gives of it: of a signed field an int64_t, of a float its bits, of text and
  * bytes a byte. It may be the one that stands for no value. */
-static inline uint32_t gazhdor_set_raw(gazhdor_writer *to, gazhdor_field field, size_t k, uint64_t raw)
+static inline uint32_t gazhdor_set_number(gazhdor_writer *to, gazhdor_field field, size_t k, uint64_t raw)
 {
     uint8_t *items = gazhdor_place_of(to, field);
     if (items == GAZHDOR_NULL || k >= field.count)
@@ -94,7 +94,7 @@ static inline uint32_t gazhdor_set_float(gazhdor_writer *to, gazhdor_field field
         memcpy(&bits, &few, 4);
     else
         memcpy(&bits, &number, 8);
-    return gazhdor_set_raw(to, field, k, bits);
+    return gazhdor_set_number(to, field, k, bits);
 }
 
 /* Sets item k of a field, counted from 0, to the one nearest to this number in the field's unit, by exact arithmetic; halfway between two
@@ -117,11 +117,11 @@ static inline uint32_t gazhdor_set_value(gazhdor_writer *to, gazhdor_field field
     int is_in = field.kind == GAZHDOR_SIGNED ? sign == GAZHDOR_CAST(uint64_t, steps.below) : !steps.below;
     if (!steps.there || !is_in || raw == field.invalid)
         return GAZHDOR_PUT_RANGE;
-    return gazhdor_set_raw(to, field, k, raw);
+    return gazhdor_set_number(to, field, k, raw);
 }
 
 /* Sets a text, of UTF-8, which a zero ends; GAZHDOR_PUT_LENGTH where the field has no room for it and its zero. NULL is "". */
-static inline uint32_t gazhdor_set_string(gazhdor_writer *to, gazhdor_field field, const char *text)
+static inline uint32_t gazhdor_set_text(gazhdor_writer *to, gazhdor_field field, const char *text)
 {
     uint8_t *items = gazhdor_place_of(to, field);
     size_t length = text == GAZHDOR_NULL ? 0 : strlen(text), size = GAZHDOR_CAST(size_t, field.count) * field.width;
@@ -184,11 +184,11 @@ static inline uint32_t gazhdor_put_description(gazhdor_writer *to, uint32_t loca
         memcpy(to->known, before.known, sizeof to->known);
         return answer;
     }
-    gazhdor_set_raw(to, fields[0], 0, own.index);
-    gazhdor_set_raw(to, fields[1], 0, own.number);
-    gazhdor_set_raw(to, fields[2], 0, own.base_type);
-    gazhdor_set_string(to, fields[3], name);
-    gazhdor_set_string(to, fields[4], unit);
+    gazhdor_set_number(to, fields[0], 0, own.index);
+    gazhdor_set_number(to, fields[1], 0, own.number);
+    gazhdor_set_number(to, fields[2], 0, own.base_type);
+    gazhdor_set_text(to, fields[3], name);
+    gazhdor_set_text(to, fields[4], unit);
     return GAZHDOR_PUT;
 }
 

@@ -7,7 +7,7 @@
  *     gazhdor_put_header(&to, 0);
  *     gazhdor_put_definition(&to, 0, GAZHDOR_MESSAGE_RECORD, fields, 2);
  *     gazhdor_put_message(&to, 0);
- *     gazhdor_set_raw(&to, fields[0], 0, 1000000000);
+ *     gazhdor_set_number(&to, fields[0], 0, 1000000000);
  *     gazhdor_set_value(&to, fields[1], 0, 408.2);
  *     gazhdor_put_end(&to);
  *     if (to.fault == GAZHDOR_PUT) answer = gazhdor_from_messages(to.bytes, to.length, &file);

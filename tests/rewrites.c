@@ -28,11 +28,11 @@ static void set_again(gazhdor_writer *to, const gazhdor_reader *at)
             uint64_t raw;
             int is_value = gazhdor_raw(f, at->block, k, &raw) && f.kind < GAZHDOR_FLOAT && f.width <= 4;
             double value = gazhdor_value(f, at->block, k);
-            PUT(is_value ? gazhdor_set_value(to, f, k, value) : gazhdor_set_raw(to, f, k, raw));
+            PUT(is_value ? gazhdor_set_value(to, f, k, value) : gazhdor_set_number(to, f, k, raw));
         }
         if (text.bytes != NULL && text.length < f.count) {
             memcpy(name, text.bytes, text.length);
-            WANT(items.bytes[items.length - 1] != 0 || gazhdor_set_string(to, f, name) == GAZHDOR_PUT);
+            WANT(items.bytes[items.length - 1] != 0 || gazhdor_set_text(to, f, name) == GAZHDOR_PUT);
         }
         PUT(gazhdor_set_items(to, f, items.bytes, items.length));
     }
@@ -271,13 +271,13 @@ static void any_set(gazhdor_writer *to, gazhdor_field field)
     switch (any() % 6) {
     case 0: gazhdor_set_value(to, field, k, any_value()); break;
     case 1:
-        if (gazhdor_set_raw(to, field, k, raw) == GAZHDOR_PUT) {
+        if (gazhdor_set_number(to, field, k, raw) == GAZHDOR_PUT) {
             uint64_t back;
             gazhdor_raw(field, gazhdor_block_at(to, to->message), k, &back);
             WANT(back == raw);
         }
         break;
-    case 2: gazhdor_set_string(to, field, texts[any() % 5]); break;
+    case 2: gazhdor_set_text(to, field, texts[any() % 5]); break;
     case 3: gazhdor_set_items(to, field, items, (size_t)(any() % 256)); break;
     case 4: gazhdor_set_invalid(to, field); break;
     default: gazhdor_set_offset(to, (uint32_t)some());
