@@ -1,14 +1,16 @@
 """Mends what was broken off: all good records of it, and an end."""
 import functools
 import struct
-from typing import Dict, Iterable, List, Optional, Tuple, Union
+from typing import Iterable, Iterator, List, Optional, Tuple, Union
 
+from ._layout import END
 from ._sources import Source, bytes_of
 from ._streams import each, found
+from ._writer import from_blocks
 from .errors import FitError, judge
 
-_DEFINITION, _MESSAGE, _END = 2, 3, 4
-_FRONT, _FIELDS, _ITEMS = struct.Struct("<IBBB").unpack_from, struct.Struct("<HHH").unpack_from, struct.Struct("<H7xBB").unpack_from
+_FRONT = struct.Struct("<IB").unpack_from
+_KIND_OF_END = 4
 _MOST = 2**32 - 1  # the size of the largest data section
 
 
@@ -41,40 +43,6 @@ def _after(total: int, byte: int) -> int:
     return total
 
 
-class _Ends:
-    """Where the last whole file and the last whole record end, of the blocks up to now."""
-
-    def __init__(self) -> None:
-        self.file = self.record = 0
-        self._sizes: Dict[int, int] = {}
-
-    def take(self, blocks: bytes) -> None:
-        at = 0
-        while at < len(blocks):
-            length, kind, first, second = _FRONT(blocks, at)
-            place = int.from_bytes(blocks[at + 16 : at + 24], "little")
-            if kind == _MESSAGE:
-                self.record = place + 1 + self._sizes[second]
-            elif kind == _DEFINITION:
-                self.record = place + self._define(first, blocks[at : at + length])
-            elif kind == _END:
-                self.file = place + 2
-            at += length
-
-    def _define(self, local: int, block: bytes) -> int:
-        """How many bytes a definition message has."""
-        fields, developer, bits = _FIELDS(block, 34)
-        at = 40 + (block.index(0, 40) - 40) // 8 * 8 + 8
-        size = 0
-        for _ in range(fields + developer):
-            length, width, count = _ITEMS(block, at)
-            size += width * count
-            at += length
-        self._sizes[local] = size
-        length = 6 + 3 * fields + (1 + 3 * developer if bits & 1 else 0)
-        return int(length)
-
-
 class _Parts:
     """A file object of bytes that lie in memory. It gives a few first, and then ever more, as the first may be refused."""
 
@@ -91,14 +59,26 @@ class _Parts:
         return bytes(part)
 
 
-def _ends(*parts: Union[bytes, memoryview]) -> _Ends:
-    ends = _Ends()
+def _blocks(*parts: Union[bytes, memoryview]) -> Iterator[bytes]:
+    """The blocks of all good events at the front of these bytes, some at a time."""
     try:
         for blocks in each("blocks", _Parts(parts), partial=True, ahead=False):
-            ends.take(blocks[:])
+            yield blocks[:]
     except FitError:
         pass
-    return ends
+
+
+def _end_of_files(data: memoryview) -> int:
+    """How many bytes the whole files have with which these begin."""
+    end = 0
+    for blocks in _blocks(data):
+        at = 0
+        while at < len(blocks):
+            length, kind = _FRONT(blocks, at)
+            if kind == _KIND_OF_END:
+                end = int.from_bytes(blocks[at + 16 : at + 24], "little") + 2
+            at += length
+    return end
 
 
 def _header(old: bytes, size: int) -> bytes:
@@ -132,12 +112,11 @@ def _mended(data: memoryview) -> Tuple[bytes, memoryview]:
     if parts is None:
         return b"", data[:0]
     head, body, after = parts
-    # With a larger size none of the records is refused for what can't follow it.
-    end = _ends(_header(head, _MOST), body).record - len(head)
-    if end <= 0:
+    # With a larger size none of the records is refused for what can't follow it. What is told is whole, and has no end.
+    blocks = b"".join(_blocks(_header(head, _MOST), body))
+    if not blocks or len(blocks) == _FRONT(blocks, 0)[0]:
         return b"", after
-    whole = _header(head, end) + body[:end]
-    return whole + checksum(whole), after
+    return from_blocks(blocks + END), after
 
 
 def mend(source: Source) -> bytes:
@@ -151,7 +130,7 @@ def mend(source: Source) -> bytes:
     made: List[Union[bytes, memoryview]] = []
     rest = memoryview(data)
     while len(rest):
-        end = _ends(rest).file
+        end = _end_of_files(rest)
         if end:
             made.append(rest[:end])
             rest = rest[end:]
