@@ -4,6 +4,7 @@ pub use Rattle.fit_names.specs.Values
 pub mod Laws
 pub mod Least
 pub mod Looks
+pub mod Opened
 pub mod Times
 pub mod Accumulated
 pub mod Told

@@ -54,7 +54,7 @@ pub(crate) fn message_of<'a>(env: &'a Env, bytes: &'a [u8]) -> MessageBytes<'a>
 
 /// The time of a message by the last time before it.
 #[inline(always)]
-fn time_of_message(previous: Option<u32>, plan: &Plan, message: &MessageBytes<'_>) -> Option<u32>
+pub(crate) fn time_of_message(previous: Option<u32>, plan: &Plan, message: &MessageBytes<'_>) -> Option<u32>
     requires plan { IsPlan plan.now message.now.defined.now.definition }
     requires size { length message.now.body.now ≡ message_size message.now.defined.now }
     ensures { result ≡ or_else (times.field_time message.now.defined.now.definition
@@ -86,7 +86,7 @@ fn counted_of_message(last: Last, plan: &Plan, message: &MessageBytes<'_>) -> To
 
 /// The plan of the definition of a message.
 #[inline(always)]
-fn plan_of<'a>(plans: &'a Plans, message: &MessageBytes<'_>) -> &'a Plan
+pub(crate) fn plan_of<'a>(plans: &'a Plans, message: &MessageBytes<'_>) -> &'a Plan
     requires { IsPlanned (slice_index_or plans.now.places.items message.now.local None)
         (Some message.now.defined.now) }
     ensures { IsPlan result.now message.now.defined.now.definition }
@@ -95,17 +95,6 @@ fn plan_of<'a>(plans: &'a Plans, message: &MessageBytes<'_>) -> &'a Plan
         Some(plan) => plan,
         None => unreachable!(),
     }
-}
-
-/// The time of the data message that the bytes are, by the last time before it.
-pub(crate) fn time_in(env: &Env, plans: &Plans, previous: Option<u32>, bytes: &[u8]) -> Option<u32>
-    requires plans { ArePlanned plans.now.places.items env.now.places }
-    requires message { (v : Values Global) × IsRecord env.now (Data v) bytes.now }
-    ensures { (v : Values Global) → IsRecord env.now (Data v) bytes.now
-        → result ≡ times.time_of env.now previous (Data v) }
-{
-    let message = message_of(env, bytes);
-    time_of_message(previous, plan_of(plans, &message), &message)
 }
 
 /// What a stream says of the data message that the bytes are, by the last ones before it.
@@ -125,21 +114,21 @@ pub(crate) fn said_in(env: &Env, plans: &Plans, last: Last, bytes: &[u8]) -> Tak
     taken
 }
 
-/// The speed and the accumulated distance of the data message that the bytes are, by the last ones before it.
+/// The speed and the accumulated distance of a message by the last ones before it.
 pub(crate) fn speed_and_distance(
-    env: &Env,
     plans: &Plans,
     last: Last,
-    bytes: &[u8],
+    message: &MessageBytes<'_>,
 ) -> (Option<u64>, Option<u64>)
-    requires plans { ArePlanned plans.now.places.items env.now.places }
-    requires message { (v : Values Global) × IsRecord env.now (Data v) bytes.now }
-    ensures { (v : Values Global) → IsRecord env.now (Data v) bytes.now
-        → IsSomeAnd (telling.tell env.now last (Data v))
-        (λ t. (result.0 ≡ t.speed) × (result.1 ≡ t.distance)) }
+    requires plan { IsPlanned (slice_index_or plans.now.places.items message.now.local None)
+        (Some message.now.defined.now) }
+    requires size { length message.now.body.now ≡ message_size message.now.defined.now }
+    ensures speed { result.0 ≡ (telling.told_at last message.now.defined.now.definition
+        (message_in message.now)).speed }
+    ensures distance { result.1 ≡ (telling.told_at last message.now.defined.now.definition
+        (message_in message.now)).distance }
 {
-    let message = message_of(env, bytes);
-    let number = plan_of(plans, &message).counters.distance_in(message.body);
+    let number = plan_of(plans, message).counters.distance_in(message.body);
     (speed(number), accumulated(DISTANCE, last.distance, number))
 }
 

@@ -19,6 +19,7 @@ ghost use Rattle.fit_profile.specs.inner.Alone.{times_alone};
 ghost use Rattle.fit_profile.specs.contracts.stream.Stream.{the_row};
 
 mod next;
+mod opened;
 mod passing;
 
 use crate::by_bytes::take_in_bytes;

@@ -35,9 +35,13 @@ pub record MessageKey : Type 0 where
   pub own : TemplateKey
   pub devs : List DevKey
 
--- that of a definition of a local message type after these records
-abbrev pub message_key : List (Record Global) → ℕ → Defined Global → MessageKey
-message_key before local p = record {
+-- that of a definition of a local message type, with these names and units of its developer fields
+abbrev pub key_of : ℕ → Defined Global → List Naming → MessageKey
+key_of local p namings = record {
   own = record { local = local; global = p.definition.global; fields = p.definition.fields };
-  devs = dev_keys (dev_defs p.definition.dev) p.dev_codes (namings_at before local);
+  devs = dev_keys (dev_defs p.definition.dev) p.dev_codes namings;
 }
+
+-- the same after these records
+abbrev pub message_key : List (Record Global) → ℕ → Defined Global → MessageKey
+message_key before local p = key_of local p (namings_at before local)

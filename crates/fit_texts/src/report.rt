@@ -1,39 +1,53 @@
 //! A reporter of texts that depend on few of the events before them.
-ghost use Rattle.std.specs.Prelude.{◌≡◌, ◌<◌, ◌^◌, ◌++◌, ◌∷◌, [], ℕ, List, OnOk};
+ghost use Rattle.std.specs.Prelude.{◌≡◌, ◌≢◌, ◌<◌, ◌^◌, ◌++◌, ◌∷◌, [], List, IsSomeAnd, IsTrue, OnOk};
 ghost use Rattle.std.specs.Global.{Global};
 ghost use Rattle.fit_chain.specs.Events.{Event as Told, file_end, header as begins, item};
-ghost use Rattle.fit_record.specs.declared.message.Record.{Record};
+ghost use Rattle.fit_record.specs.Environment.{defined_at};
+ghost use Rattle.fit_record.specs.MessageBytes.{message_in};
 ghost use Rattle.fit_record.specs.declared.message.Record.TheVariants.{Define, Values as Data};
 ghost use Rattle.fit_record.specs.declared.message.Values.{Values};
-ghost use Rattle.fit_record.specs.Records.{Fits, IsRecord};
+ghost use Rattle.fit_record.specs.Records.{Fits};
 ghost use Rattle.fit_profile.specs.Looks.{known};
+ghost use Rattle.fit_profile.specs.Opened.{IsOpened};
+ghost use Rattle.fit_profile.specs.Times as times;
 ghost use Rattle.fit_report.specs.Heard.{latest_records};
+ghost use Rattle.fit_texts.specs.Current.{AreCurrent};
 ghost use Rattle.fit_texts.specs.KeptEvents.{files_heard, kept_events};
 
+use crate::found::{Finding, Findings};
+use crate::teller::Teller;
 use fit_decode::{Decoder, Event};
 use fit_encode::spell;
 use fit_frame::Header;
 use fit_profile::Stream;
-use fit_record::{MessageDef, Record};
+use fit_record::{MessageBytes, MessageDef, Record};
 use fit_report::Report;
 use std::alloc::{AllocError, Global};
 use std::marker::Model;
 
+/// When a data message came: in which file, counted from 1, and its time in seconds since 1989-12-31T00:00:00 UTC, where it has one.
+#[derive(Clone, Copy)]
+pub struct Moment {
+    pub file: u64,
+    pub time: Option<u32>,
+}
+
 /// Makes text of events, one after another, by the records before them in their file and by how many files have begun.
 pub trait TextMaker: Drop {
-    // What it keeps of definitions serves after these records, the latest first.
-    ghost is_current: { Self → List (Record Global) → Type 0 };
+    /// What is found out of definitions for the texts of their data messages.
+    type Found: Finding;
 
     // The text of an event after these events, the latest first.
     ghost line: { List (Told Global) → Told Global → List ℕ };
 
     /// It has made no text.
-    fn new(alloc: Global) -> Self
-        ensures { is_current result [] };
+    fn new(alloc: Global) -> Self;
 
-    /// Forgets what it keeps of definitions.
-    fn forget(&mut self)
-        ensures { (before : List (Record Global)) → is_current self.new before };
+    /// Whether only record messages have a text, of all data messages.
+    fn tells_records_alone() -> bool
+        ensures { IsTrue result → (heard : List (Told Global)) (v : Values Global)
+            → IsSomeAnd (defined_at (known (latest_records heard)) v.local)
+            (λ p. p.definition.global ≢ 20) → line heard (item (Data v)) ≡ [] };
 
     /// Puts the text of the header of a file with that many bytes of data, where that many files have begun before it.
     fn put_header(
@@ -61,32 +75,30 @@ pub trait TextMaker: Drop {
         ensures { OnOk result ((heard : List (Told Global))
             → text.new.items ≡ text.old.items ++ line heard file_end) };
 
-    /// Takes in the data message that the bytes are after the records of a stream, where that many files have begun, and puts its text.
-    fn take_message(
+    /// Puts the text of a data message that is opened after the records of a stream, by what is found out of its definition.
+    fn put_message(
         &mut self,
         text: &mut Vec<u8>,
-        stream: &mut Stream,
-        files: u64,
-        bytes: &[u8],
+        found: &mut Findings<Self::Found>,
+        stream: &Stream,
+        message: &MessageBytes<'_>,
+        moment: Moment,
     ) -> Result<(), AllocError>
-        requires record_ { (v : Values Global) × IsRecord (known stream.old) (Data v) bytes.now }
-        requires current { is_current self.old stream.old }
-        ensures text { OnOk result ((heard : List (Told Global)) (v : Values Global)
-            → stream.old ≡ latest_records heard → files ≡ files_heard heard
-            → IsRecord (known stream.old) (Data v) bytes.now
-            → text.new.items ≡ text.old.items ++ line heard (item (Data v))) }
-        ensures stream { OnOk result ((v : Values Global)
-            → IsRecord (known stream.old) (Data v) bytes.now → stream.new ≡ Data v ∷ stream.old) }
-        ensures current { is_current self.new stream.new };
+        requires opened { IsOpened stream.now message.now }
+        requires time { moment.time ≡ times.time stream.now (Data (message_in message.now)) }
+        requires current { AreCurrent Self.Found.found_of found.old stream.now }
+        ensures text { OnOk result ((heard : List (Told Global))
+            → stream.now ≡ latest_records heard → moment.file ≡ files_heard heard
+            → text.new.items
+            ≡ text.old.items ++ line heard (item (Data (message_in message.now)))) }
+        ensures current { AreCurrent Self.Found.found_of found.new stream.now };
 }
 
 /// Makes the text of the events of a chain of files by what makes it. Clauses see what it keeps of the events that it has heard: the
 /// records of the file that was begun last, the latest first, and how many files have begun.
 #[derive(Drop)]
 pub struct TextReport<M: TextMaker> {
-    stream: Stream,
-    files: u64,
-    maker: M,
+    teller: Teller<M>,
     /// The memory of the bytes of a data message that came in pieces.
     bytes: Vec<u8>,
 }
@@ -96,9 +108,7 @@ impl<M: TextMaker> Model for TextReport<M> {
 
     ghost Value = { KeptEvents };
 
-    ghost view = { λ r. record { records = r.stream; files = r.files } };
-
-    ghost invariant = { λ r. M.is_current r.maker r.stream };
+    ghost view = { λ r. r.teller };
 }
 
 impl<M: TextMaker> TextReport<M> {
@@ -107,32 +117,9 @@ impl<M: TextMaker> TextReport<M> {
         ensures { result ≡ kept_events [] }
     {
         TextReport {
-            stream: Stream::new(alloc),
-            files: 0,
-            maker: M::new(alloc),
+            teller: Teller::new(alloc),
             bytes: Vec::new(alloc),
         }
-    }
-
-    /// Takes in the header of a file, and puts its text.
-    fn take_header(
-        &mut self,
-        text: &mut Vec<u8>,
-        header: &Header,
-        size: u32,
-    ) -> Result<(), AllocError>
-        requires { self.old.files < 2 ^ 60 }
-        ensures heard { OnOk result ((heard : List (Told Global)) → self.old ≡ kept_events heard
-            → self.new ≡ kept_events (begins header.now size ∷ heard)) }
-        ensures text { OnOk result ((heard : List (Told Global)) → self.old ≡ kept_events heard
-            → text.new.items ≡ text.old.items ++ M.line heard (begins header.now size)) }
-    {
-        let put = self.maker.put_header(text, self.files, header, size);
-        self.maker.forget();
-        put?;
-        self.stream.begin_file();
-        self.files += 1;
-        Ok(())
     }
 
     /// Takes in a record, and puts its text: that of a data message by its bytes, as where it is skipped.
@@ -144,31 +131,12 @@ impl<M: TextMaker> TextReport<M> {
             → text.new.items ≡ text.old.items ++ M.line heard (item record_.now)) }
     {
         match record_ {
-            Record::Define(definition) => {
-                let put = self.maker.put_definition(text, definition);
-                self.maker.forget();
-                put?;
-                self.stream.take(record_)
-            }
+            Record::Define(definition) => self.teller.take_definition(text, record_, definition),
             Record::Values(_values) => {
-                spell(&mut self.bytes, self.stream.env(), record_)?;
-                let bytes = self.bytes.as_slice();
-                self.maker
-                    .take_message(text, &mut self.stream, self.files, bytes)
+                spell(&mut self.bytes, self.teller.stream.env(), record_)?;
+                self.teller.take_message(text, self.bytes.as_slice())
             }
         }
-    }
-
-    /// Takes in the end of a file, and puts its text.
-    fn take_end(&mut self, text: &mut Vec<u8>) -> Result<(), AllocError>
-        ensures heard { OnOk result ((heard : List (Told Global)) → self.old ≡ kept_events heard
-            → self.new ≡ kept_events (file_end ∷ heard)) }
-        ensures text { OnOk result ((heard : List (Told Global)) → self.old ≡ kept_events heard
-            → text.new.items ≡ text.old.items ++ M.line heard file_end) }
-    {
-        let put = self.maker.put_end(text);
-        self.maker.forget();
-        put
     }
 }
 
@@ -179,9 +147,9 @@ impl<M: TextMaker> Report for TextReport<M> {
 
     fn tell(&mut self, event: &Event, text: &mut Vec<u8>) -> Result<(), AllocError> {
         match event {
-            Event::Header(header, size) => self.take_header(text, header, *size),
+            Event::Header(header, size) => self.teller.take_header(text, header, *size),
             Event::Item(record_) => self.take_record(text, record_),
-            Event::FileEnd => self.take_end(text),
+            Event::FileEnd => self.teller.take_end(text),
             Event::More => Ok(()),
         }
     }
@@ -197,8 +165,7 @@ impl<M: TextMaker> Report for TextReport<M> {
             return Ok(0);
         }
         let (message, _) = piece.split_at(used);
-        self.maker
-            .take_message(text, &mut self.stream, self.files, message)?;
+        self.teller.take_message(text, message)?;
         Ok(used)
     }
 }

@@ -1,27 +1,20 @@
 //! What a stream tells of the next record, before it is taken in.
 ghost use Rattle.std.specs.Prelude.{◌≡◌, ◌==◌, ◌&&◌, ◌≤◌, IfSome, Some, option_map, option_and_then, slice_get};
 ghost use Rattle.std.specs.List.{list_any};
-ghost use Rattle.std.specs.declared.alloc.Global.{Global};
 ghost use Rattle.fit_record.specs.Environment.{defined_at};
-ghost use Rattle.fit_record.specs.Records.{Fits, IsRecord};
-ghost use Rattle.fit_record.specs.declared.message.Values.{Values};
-ghost use Rattle.fit_record.specs.declared.message.Record.TheVariants.{Values as Data};
+ghost use Rattle.fit_record.specs.Records.{Fits};
 ghost use Rattle.fit_profile.specs.Accumulated.{is_counter};
 ghost use Rattle.fit_profile.specs.Described.{namings_at};
 ghost use Rattle.fit_profile.specs.Looks.{known};
 ghost use Rattle.fit_profile.specs.Times as times;
 ghost use Rattle.fit_profile.specs.Told.{told_of};
 ghost use Rattle.fit_profile.specs.Told as telling;
-ghost use Rattle.fit_names.specs.Values.{IsAmount};
 
 use super::Stream;
 use crate::by_plan::{tell, time_of};
-use crate::message_bytes::{speed_and_distance, time_in};
 use crate::names::Texts;
 use crate::time::header_time;
 use crate::told::Told;
-use fit_names::in_scale;
-use fit_numbers::Fixed;
 use fit_record::Record;
 
 impl Stream {
@@ -40,30 +33,6 @@ impl Stream {
         ensures { result ≡ times.time self.now record_.now }
     {
         time_of(&self.env, &self.plans, self.last.time, record_)
-    }
-
-    /// The time of the data message in these bytes, in seconds since 1989-12-31T00:00:00 UTC, as of `time`.
-    pub fn message_time(&self, bytes: &[u8]) -> Option<u32>
-        requires { (v : Values Global) × IsRecord (known self.now) (Data v) bytes.now }
-        ensures { (v : Values Global) → IsRecord (known self.now) (Data v) bytes.now
-            → result ≡ times.time self.now (Data v) }
-    {
-        time_in(&self.env, &self.plans, self.last.time, bytes)
-    }
-
-    /// The speed in compressed_speed_distance in m/s and the distance accumulated from it in m, of the data message in these bytes, as
-    /// `Message::speed` and `Message::distance` give them.
-    pub fn message_amounts(&self, bytes: &[u8]) -> (Option<Fixed>, Option<Fixed>)
-        requires { (v : Values Global) × IsRecord (known self.now) (Data v) bytes.now }
-        ensures speed { (v : Values Global) → IsRecord (known self.now) (Data v) bytes.now
-            → IsAmount 100 (telling.told self.now v).speed result.0 }
-        ensures distance { (v : Values Global) → IsRecord (known self.now) (Data v) bytes.now
-            → IsAmount 16 (telling.told self.now v).distance result.1 }
-        ensures few_speed { IfSome result.0 (λ v. v.decimals ≤ 8) }
-        ensures few_distance { IfSome result.1 (λ v. v.decimals ≤ 8) }
-    {
-        let (speed, distance) = speed_and_distance(&self.env, &self.plans, self.last, bytes);
-        (in_scale(speed, 100), in_scale(distance, 16))
     }
 
     /// Whether messages of the definition of this local message type may tell speed, distance, cycles and power: they are records with
