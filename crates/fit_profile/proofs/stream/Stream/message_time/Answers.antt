@@ -8,9 +8,6 @@ pub plan_of-requires : goal.plan_of-requires
 plan_of-requires c =
     planned_inside c.self.inside.plans.places.items c.args.self.now c.args.message.now c.self.invariant.0 c.self.view_is c.self.invariant.1 c.requires
 
-pub time_of_message-requires : goal.time_of_message-requires
-time_of_message-requires c = record { plan = c.plan_of.ensures; size = c.requires.size; }
-
 pub returns : goal.returns
 returns c =
     let m = c.args.message.now in

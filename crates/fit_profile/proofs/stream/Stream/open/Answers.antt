@@ -16,7 +16,7 @@ returns-clause-opened c =
     let read = c.message_of.ensures.read v (kept-record now (Data v) c.args.bytes.now c.self.invariant.0 c.self.view_is c.requires.1) in
     record {
       defined = sym (ap (λ (e : Environment Global). defined_at e m.local) (c.self.invariant.0.env_is ∙ ap known c.self.view_is))
-      ∙ c.message_of.ensures.defined;
+          ∙ c.message_of.ensures.defined;
       sound = c.message_of.ensures.sound;
       size = c.message_of.ensures.long;
       fits = subst (λ w. Fits (known now) (Data w)) (sym read) c.requires.1.0;
