@@ -1,7 +1,7 @@
 use Rattle.fit_texts.proofs.Common.{◌≡◌, ◌∙◌, ◌++◌, ◌∷◌, [], length, ap, arith, slice_get}
 use Rattle.std.proofs.Common.{◌+◌, zero, suc, ℕ, List, None, Some}
 use Rattle.std.proofs.lemmas.List.{length-append}
-use Rattle.fit_texts.proofs.found.make_place.Goals as goal
+use Rattle.fit_texts.proofs.found.make_places.Goals as goal
 
 -- what stands in a list still stands there with more after it
 with_more : {X : Type 0} (xs ys : List X) (k : ℕ) (x : X) → slice_get xs k ≡ Some x → slice_get (xs ++ ys) k ≡ Some x
