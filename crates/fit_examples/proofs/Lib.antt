@@ -5,3 +5,4 @@ pub mod Holding
 pub mod RideFaults
 pub mod Noted
 pub mod Shrinking
+pub mod RatesTold

@@ -14,17 +14,11 @@ use Rattle.fit_report.specs.Laws.{HeardRecordsFit}
 use Rattle.fit_report.proofs.Chains.{chain_events}
 use Rattle.fit_examples.specs.declared.moments.Moment.{Moment}
 use Rattle.fit_examples.specs.HeartRates.{file_moments, record_moments, records_moments}
+use Rattle.fit_examples.specs.Rates.{moments_heard}
 use Rattle.fit_examples.specs.inner.Noting.{event_moments, records_after_event}
 use Rattle.fit_chain.specs.declared.event.Event.TheVariants as answers
 
 -- ---- the moments of events
-
--- of events, the latest first
-abbrev moments_heard : {A : Type 0} → List (Event A) → List Moment
-moments_heard [] = []
-moments_heard (header h n ∷ heard) = moments_heard heard
-moments_heard (item r ∷ heard) = moments_heard heard ++ record_moments (latest_records heard) r
-moments_heard (file_end ∷ heard) = moments_heard heard
 
 -- of events in their order, after these records of their file
 abbrev moments_after : {A : Type 0} → List (Record A) → List (Event A) → List Moment
@@ -59,6 +53,10 @@ of_files : {A : Type 0} (before : List (Record A)) (fs : List (FitFile A)) → m
 of_files before [] = refl
 of_files before (f ∷ fs) = of_file [] f.records (flat_map file_events fs) (flat_map file_moments fs) (λ others. of_files others fs)
 
+-- those of a chain
+pub chain_moments : {A : Type 0} (fs : List (FitFile A)) → moments_heard (reverse (flat_map file_events fs)) ≡ flat_map file_moments fs
+chain_moments fs = ap moments_heard (sym (append-nil (reverse (flat_map file_events fs)))) ∙ both [] (flat_map file_events fs) ∙ of_files [] fs
+
 -- ---- what is noted
 
 -- The stream and the moments are those of the events of the bytes.
@@ -85,12 +83,12 @@ events_on bytes piece used (answers.Header h n) heard a are = one_on bytes piece
 events_on bytes piece used (answers.Item r) heard a are = one_on bytes piece used (item r) heard are (a.event (item r) refl)
 events_on bytes piece used answers.FileEnd heard a are = one_on bytes piece used file_end heard are (a.event file_end refl)
 
-records_on : {A : Type 0} (heard : List (Event A)) (answer : Answer A)
+pub records_on : {A : Type 0} (heard : List (Event A)) (answer : Answer A)
     → records_after_event (latest_records heard) answer ≡ latest_records (hear answer heard)
 records_on heard answers.More = refl
 records_on heard answer = refl
 
-moments_on : {A : Type 0} (heard : List (Event A)) (answer : Answer A)
+pub moments_on : {A : Type 0} (heard : List (Event A)) (answer : Answer A)
     → moments_heard heard ++ event_moments (latest_records heard) answer ≡ moments_heard (hear answer heard)
 moments_on heard (answers.Item r) = refl
 moments_on heard answer = append-nil (moments_heard heard)

@@ -59,7 +59,28 @@ fn moment_of(message: Option<Message>) -> Option<Moment>
     })
 }
 
-/// Takes an event into the stream, and the moment of a record message into the list. A header begins a file.
+/// Takes an event into the stream, and returns the moment of a record message. A header begins a file.
+pub(crate) fn moment_told(
+    stream: &mut Stream,
+    event: &Event,
+) -> Result<Option<Moment>, AllocError>
+    requires { (heard : List (Told Global)) ×
+        (stream.old ≡ latest_records heard) × AreHeard (hear event.now heard) }
+    ensures stream { OnOk result (stream.new ≡ records_after_event stream.old event.now) }
+    ensures moment { IfOk result
+        (λ moment. moments_in moment ≡ event_moments stream.old event.now) }
+{
+    heard_records_fit::<Global>();
+    looking_back_is_learning::<Global>();
+    match event {
+        Event::Header(..) => stream.begin_file(),
+        Event::Item(record_) => return Ok(moment_of(stream.push(record_)?)),
+        Event::More | Event::FileEnd => {}
+    }
+    Ok(None)
+}
+
+/// Takes an event into the stream, and the moment of a record message into the list.
 fn note(stream: &mut Stream, moments: &mut Vec<Moment>, event: Event) -> Result<(), AllocError>
     requires { (heard : List (Told Global)) ×
         (stream.old ≡ latest_records heard) × AreHeard (hear event heard) }
@@ -67,16 +88,8 @@ fn note(stream: &mut Stream, moments: &mut Vec<Moment>, event: Event) -> Result<
     ensures moments { OnOk result
         (moments.new.items ≡ moments.old.items ++ event_moments stream.old event) }
 {
-    heard_records_fit::<Global>();
-    looking_back_is_learning::<Global>();
-    match event {
-        Event::Header(..) => stream.begin_file(),
-        Event::Item(record_) => {
-            if let Some(moment) = moment_of(stream.push(&record_)?) {
-                moments.push(moment)?;
-            }
-        }
-        Event::More | Event::FileEnd => {}
+    if let Some(moment) = moment_told(stream, &event)? {
+        moments.push(moment)?;
     }
     Ok(())
 }

@@ -2,8 +2,10 @@
 use Rattle.fit_report.proofs.Common.{◌≡◌, ℕ, suc, ◌<◌, List, [], ◌∷◌, ◌++◌, length, take, drop, get_or, reverse, Option, Some, None, Result, Ok, Err, refl, sym}
 use Rattle.fit_report.proofs.Common.{ap, ◌∙◌, subst, append_assoc, OnOk, flat_map, Appends, Consumes, IsAtEnd, append-nil, take-append-drop, reverse-reverse}
 use Rattle.fit_report.proofs.Common.{drop-cons, FitFile, chain_bytes, chain_limit, IsChain, IsViable, Refused, Truncated, Read, NoRoom, Event, AreEvents}
-use Rattle.fit_report.proofs.Common.{file_events, at_header, ReportFault, Decode, NoMemory, Write, Lines, text_of, Channel, Reports, ReportsChain, HasTold}
+use Rattle.fit_report.proofs.Common.{IsErr, ◌⊎◌, inl, inr, file_events, at_header, ReportFault, Decode, NoMemory, Write, Lines, text_of, Channel, Reports, ReportsChain, HasTold}
+use Rattle.fit_report.proofs.Common.{HasHeard}
 use Rattle.fit_base.specs.Numbers.{IsBytes}
+use Rattle.fit_report.specs.Documents.{document_of, Ending, HasToldDocument, PutsDocument, ReportsChainDocument, ReportsDocument, TakesAll}
 use Rattle.fit_chain.proofs.OneReason.{one_list_of_events}
 use Rattle.fit_chain.proofs.Whole.{unfinished}
 
@@ -73,3 +75,43 @@ module _ {A : Type 0} (line : Lines A) (fs : List (FitFile A)) (b : List ℕ) (a
   hears_chain has_heard reporter source sink (Ok x) input (taken, heard, eats, (end, well, files, tells), has) =
       let t = taken_of source.after taken (subst (λ h. Consumes h source.after taken) input eats) in
       subst (has_heard reporter) (chain_heard taken t.0 heard source.after end t.1 t.2 tells.0) has
+
+  -- the same of a document
+
+  module _ {R : Type 0} (has_heard : R → List (Event A) → Type 0) (reporter : R) (ending : Ending A) (source sink : Channel) (input : source.before ≡ Some b)
+      (taken : List ℕ) (heard : List (Event A)) (eats : Consumes source.before source.after taken) where
+    same_events : TakesAll taken source heard → heard ≡ reverse (flat_map file_events fs)
+    same_events (end, well, files, are) =
+        let t = taken_of source.after taken (subst (λ h. Consumes h source.after taken) input eats) in
+        chain_heard taken t.0 heard source.after end t.1 t.2 are
+
+    ended : (result : Result (Unit {0}) ReportFault) → TakesAll taken source heard → PutsDocument line ending heard sink result
+        → ReportsChainDocument line ending fs source sink result
+    ended (Ok x) all puts = subst (λ es. Appends sink.before sink.after (document_of line ending es)) (same_events all) puts
+    ended (Err (Decode fault)) all none = absurd none
+    ended (Err NoMemory) all puts = all.1
+    ended (Err (Write count)) all puts = puts.0
+
+    document_told : (result : Result (Unit {0}) ReportFault) → HasToldDocument line ending taken source sink heard result
+        → HasHeard has_heard reporter heard result → ReportsChainDocument line ending fs source sink result
+    document_told result (inl (all, puts)) has = ended result all puts
+    document_told (Ok x) (inr (bad, told)) has = absurd cc
+    document_told (Err fault) (inr (bad, told)) has = reports_chain has_heard reporter source sink (Err fault) input (taken, heard, eats, told, has)
+
+    document_heard : HasToldDocument line ending taken source sink heard (Ok tt) → has_heard reporter heard
+        → has_heard reporter (reverse (flat_map file_events fs))
+    document_heard (inl (all, puts)) has = subst (has_heard reporter) (same_events all) has
+    document_heard (inr (bad, told)) has = absurd cc
+
+  pub document_chain : {R : Type 0} (has_heard : R → List (Event A) → Type 0) (reporter : R) (ending : Ending A) (source sink : Channel)
+      (result : Result (Unit {0}) ReportFault) → source.before ≡ Some b → ReportsDocument has_heard reporter line ending source sink result
+      → ReportsChainDocument line ending fs source sink result
+  document_chain has_heard reporter ending source sink result input (taken, heard, eats, told, has) =
+      document_told has_heard reporter ending source sink input taken heard eats result told has
+
+  pub hears_document : {R : Type 0} (has_heard : R → List (Event A) → Type 0) (reporter : R) (ending : Ending A) (source sink : Channel)
+      (result : Result (Unit {0}) ReportFault) → source.before ≡ Some b → ReportsDocument has_heard reporter line ending source sink result
+      → OnOk result (has_heard reporter (reverse (flat_map file_events fs)))
+  hears_document has_heard reporter ending source sink (Err fault) input reports = tt
+  hears_document has_heard reporter ending source sink (Ok x) input (taken, heard, eats, told, has) =
+      document_heard has_heard reporter ending source sink input taken heard eats told has

@@ -7,3 +7,4 @@ pub mod Chains
 pub mod Records
 pub mod Skipped
 pub mod SkippedMessages
+pub mod Documents

@@ -1,5 +1,6 @@
 pub mod Heard
 pub mod Reports
 pub mod Telling
+pub mod Documents
 pub mod Laws
 pub mod inner

@@ -6,7 +6,7 @@ ghost use Rattle.fit_record.specs.declared.file.FitFile.{FitFile};
 ghost use Rattle.fit_record.specs.Files.{chain_limit, IsChain};
 ghost use Rattle.fit_chain.specs.Events.{file_events};
 ghost use Rattle.fit_report.specs.Reports.{Reports, ReportsChain, channel};
-ghost use Rattle.fit_report.specs.inner.Passing.{HasComeTo, ReportsFrom, TellsPiece};
+ghost use Rattle.fit_report.specs.inner.Passing.{EndsFrom, HasComeTo, HasComeToEnd, ReportsFrom, TellsPiece};
 
 use crate::{Report, ReportFault, Telling};
 use fit_decode::{Fault, PIECE_SIZE, Source};
@@ -37,6 +37,10 @@ fn tell_taken<S: Source, K: Sink, R: Report>(
         telling.old telling.new place
         (channel S.remaining S.has_failed source.old source.new)
         (channel K.contents K.has_failed sink.old sink.new) result }
+    ensures ended { IfOk result (λ got. got ≡ 0 → EndsFrom
+        R.has_heard R.line reporter.old reporter.new telling.old telling.new place
+        (channel S.remaining S.has_failed source.old source.new)
+        (channel K.contents K.has_failed sink.old sink.new)) }
     ensures works { OnOk result (K.has_failed sink.old ≡ false → K.has_failed sink.new ≡ false) }
 {
     let Ok(got) = source.take(buffer) else {
@@ -68,6 +72,10 @@ fn tell_pieces<S: Source, K: Sink, R: Report>(
     ensures reports { ReportsFrom R.has_heard R.line reporter.old reporter.new telling.old place
         (channel S.remaining S.has_failed source.old source.new)
         (channel K.contents K.has_failed sink.old sink.new) result }
+    ensures ended { OnOk result (EndsFrom
+        R.has_heard R.line reporter.old reporter.new telling.old telling.new place
+        (channel S.remaining S.has_failed source.old source.new)
+        (channel K.contents K.has_failed sink.old sink.new)) }
     ensures works { OnOk result (K.has_failed sink.old ≡ false → K.has_failed sink.new ≡ false) }
 {
     'pieces: loop {
@@ -97,6 +105,10 @@ fn tell_rest<S: Source, K: Sink, R: Report>(
     ensures reports { ReportsFrom R.has_heard R.line reporter.old reporter.new telling.old place
         (channel S.remaining S.has_failed source.old source.new)
         (channel K.contents K.has_failed sink.old sink.new) result }
+    ensures ended { OnOk result (EndsFrom
+        R.has_heard R.line reporter.old reporter.new telling.old telling.new place
+        (channel S.remaining S.has_failed source.old source.new)
+        (channel K.contents K.has_failed sink.old sink.new)) }
     ensures works { OnOk result (K.has_failed sink.old ≡ false → K.has_failed sink.new ≡ false) }
 {
     let mut long = Vec::new(alloc);
@@ -108,7 +120,7 @@ fn tell_rest<S: Source, K: Sink, R: Report>(
 
 /// Tells all of an input, of which nothing was told before. The first two pieces are short, so that a short input takes no memory for
 /// long ones.
-fn tell_all<S: Source, K: Sink, R: Report>(
+pub(crate) fn tell_all<S: Source, K: Sink, R: Report>(
     alloc: Global,
     telling: &mut Telling,
     source: &mut S,
@@ -121,6 +133,10 @@ fn tell_all<S: Source, K: Sink, R: Report>(
     ensures reports { Reports R.has_heard reporter.new R.line
         (channel S.remaining S.has_failed source.old source.new)
         (channel K.contents K.has_failed sink.old sink.new) result }
+    ensures ended { OnOk result (HasComeToEnd
+        R.has_heard R.line reporter.new telling.new
+        (channel S.remaining S.has_failed source.old source.new)
+        (K.contents sink.old) (K.contents sink.new)) }
     ensures works { OnOk result (K.has_failed sink.old ≡ false → K.has_failed sink.new ≡ false) }
 {
     let mut short = [0u8; PIECE_SIZE];

@@ -136,10 +136,17 @@ impl Telling {
     {
         self.decoder.files()
     }
+
+    /// How many bytes of text were put. The count stops at 2^64 - 1.
+    pub(crate) fn written(&self) -> u64
+        ensures { result ≡ self.now.written }
+    {
+        self.written
+    }
 }
 
 /// Puts a text in the sink, where `written` bytes of text were put before.
-fn put_text<K: Sink>(sink: &mut K, text: &[u8], written: &mut u64) -> Result<(), ReportFault>
+pub(crate) fn put_text<K: Sink>(sink: &mut K, text: &[u8], written: &mut u64) -> Result<(), ReportFault>
     ensures puts { Puts text.now (channel K.contents K.has_failed sink.old sink.new)
         written.old written.new result }
     ensures works { OnOk result (K.has_failed sink.old ≡ false → K.has_failed sink.new ≡ false) }

@@ -3,10 +3,13 @@ use crate::asserts::{equal, equal_at};
 use fit_base::Entries;
 use fit_csv::CsvFault;
 use fit_decode::{Fault, read_one};
-use fit_encode::EncodeFault;
-use fit_examples::{Moment, check_upload, heart_rates, ride_file, ride_table, written_and_read};
+use fit_encode::{CutSink, EncodeFault, WriteSink};
+use fit_examples::{
+    Moment, check_upload, heart_rates, rates_document, ride_file, ride_table, written_and_read,
+};
 use fit_frame::{Header, HeaderSum, PROTOCOL_2_0, Reason};
 use fit_record::FitFile;
+use fit_report::ReportFault;
 use std::alloc::Global;
 use std::process::Abort;
 use test_known::TABLE_HEAD;
@@ -175,4 +178,59 @@ fn heart_rates_of_rides(rt: HostRuntime) {
     assert!(rt; chain.extend_from_slice(&DESCRIBED).is_ok());
     let all = [three[0], three[1], three[2], none, none, none];
     has_moments(&rt, alloc, chain.as_slice(), &all);
+}
+
+/// A header and a checksum, with no record between them.
+const SILENT: [u8; 16] = *b"\x0E\x20\0\0\0\0\0\0.FIT\x9C\x85\0\0";
+
+/// Asserts the document of the heart rates of a ride, and how the report of it ends.
+fn has_document(
+    rt: &impl Abort,
+    alloc: Global,
+    ride: &[u8],
+    answer: Result<(), ReportFault>,
+    text: &str,
+) {
+    let mut source = ride;
+    let mut sink = WriteSink::new(Vec::new(alloc));
+    let found = rates_document(alloc, &mut source, &mut sink);
+    assert!(rt; found == answer);
+    equal(rt, &sink.into_inner().as_slice(), &text.as_bytes());
+}
+
+#[test]
+fn documents_of_rides(rt: HostRuntime) {
+    let cut = Err(ReportFault::Decode(Fault::Truncated { place: 51 }));
+    for (ride, answer, text) in [
+        (BOTH.as_slice(), Ok(()), "[120,null]\n"),
+        (DESCRIBED.as_slice(), Ok(()), "[null,null,null]\n"),
+        (RIDE.as_slice(), Ok(()), "[120,null,121]\n"),
+        (SILENT.as_slice(), Ok(()), "[]\n"),
+        (&BOTH[..51], cut, "[120,null"),
+    ] {
+        has_document(&rt, rt.alloc(), ride, answer, text);
+    }
+}
+
+#[test]
+fn a_document_of_two_files(rt: HostRuntime) {
+    let mut chain = Vec::from_slice(rt.alloc(), &RIDE).expect(&rt, "memory");
+    assert!(rt; chain.extend_from_slice(&SILENT).is_ok());
+    assert!(rt; chain.extend_from_slice(&BOTH).is_ok());
+    let text = "[120,null,121,120,null]\n";
+    has_document(&rt, rt.alloc(), chain.as_slice(), Ok(()), text);
+}
+
+/// With sinks that fail, also in the ending, the count is of all bytes of the document.
+#[test]
+fn documents_that_break_off(rt: HostRuntime) {
+    let text = b"[120,null,121]\n";
+    for limit in 0..text.len() {
+        let mut source = RIDE.as_slice();
+        let mut sink = CutSink::<64>::new(limit);
+        let found = rates_document(rt.alloc(), &mut source, &mut sink);
+        let written = limit as u64;
+        equal_at(&rt, &found, &Err(ReportFault::Write { written }), &limit);
+        equal(&rt, &sink.bytes(), &&text[..limit]);
+    }
 }

@@ -1,10 +1,11 @@
 -- What the parts of a report do.
-use Rattle.std.specs.Prelude.{◌≡◌, ℕ, ◌+◌, ◌-◌, ◌^◌, ◌<◌, ◌≤◌, min, true, List, [], Option, None, Result, Ok, Err, take, length}
-use Rattle.std.specs.Io.KnownBytes.{Appends, Consumes}
+use Rattle.std.specs.Prelude.{◌≡◌, ℕ, ◌+◌, ◌-◌, ◌^◌, ◌<◌, ◌≤◌, min, true, false, List, [], Option, None, Result, Ok, Err, take, length}
+use Rattle.std.specs.Io.KnownBytes.{Appends, Consumes, IsAtEnd}
 use Rattle.std.specs.Global.{Global}
 use Rattle.fit_record.specs.Files.{chain_limit, IsViable}
 use Rattle.fit_report.specs.declared.fault.ReportFault.{ReportFault}
-use Rattle.fit_report.specs.declared.fault.ReportFault.TheVariants.{Write}
+use Rattle.fit_report.specs.declared.fault.ReportFault.TheVariants.{Decode, NoMemory, Write}
+use Rattle.fit_chain.specs.Checks.{AreChain}
 use Rattle.fit_chain.specs.Events.{Event}
 use Rattle.fit_report.specs.Heard.{Lines}
 use Rattle.fit_report.specs.Reports.{Channel, Reports}
@@ -46,3 +47,24 @@ TellsPiece has_heard line before after old new place source sink (Ok got) =
     (got ≡ 0 → ReportsFrom has_heard line before after old place source sink (Ok tt))
     × (0 < got → (begin start : Option (List ℕ)) → HasComeTo has_heard line before old place begin source.before start sink.before
     → HasComeTo has_heard line after new (place + got) begin source.after start sink.after)
+
+-- The place to which a report has come is the end of its input, which is a chain.
+abbrev pub HasComeToEnd : {R : Type 0} → (R → List (Event Global) → Type 0) → Lines Global → R → ToldSoFar → Channel → Option (List ℕ) → Option (List ℕ)
+    → Type 0
+HasComeToEnd has_heard line reporter telling source start sink =
+    HasComeTo has_heard line reporter telling (length telling.seen.bytes) source.before source.after start sink
+    × AreChain Global telling.seen.bytes × IsAtEnd source.after × (source.failed ≡ false)
+
+-- A report that came to a place has come to the end, by its source and its sink as they were at first.
+abbrev pub EndsFrom : {R : Type 0} → (R → List (Event Global) → Type 0) → Lines Global → R → R → ToldSoFar → ToldSoFar → ℕ → Channel → Channel → Type 0
+EndsFrom has_heard line before after old new place source sink =
+    (begin start : Option (List ℕ)) → HasComeTo has_heard line before old place begin source.before start sink.before
+    → HasComeToEnd has_heard line after new (record source { before = begin }) start sink.after
+
+-- What the putting of the ending did, after that many bytes of text: without memory nothing.
+abbrev pub PutsEnding : List ℕ → Channel → ℕ → Result (Unit {0}) ReportFault → Type 0
+PutsEnding text sink old (Ok _) = Appends sink.before sink.after text
+PutsEnding text sink old (Err (Decode fault)) = ⊥
+PutsEnding text sink old (Err NoMemory) = sink.after ≡ sink.before
+PutsEnding text sink old (Err (Write written)) =
+    (sink.failed ≡ true) × (n : ℕ) × (n < length text) × Appends sink.before sink.after (take n text) × (written ≡ min (old + n) (2 ^ 64 - 1))

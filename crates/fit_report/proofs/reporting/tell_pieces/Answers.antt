@@ -35,3 +35,7 @@ overflow_add-place g c =
     let (begin, start, i) = c.requires.come in
     let now = c.pieces.invariant.come begin start i in
     omega (arith, now.counted, short_bytes c.pieces.telling.seen.bytes now.viable, c.in_ok-got.ensures.bound)
+
+pub returns-then-got-eq0-clause-ended : goal.returns-then-got-eq0-clause-ended
+returns-then-got-eq0-clause-ended g c = λ begin start i.
+    c.in_ok-got.ensures.ended c.if-got-eq0.true begin start (c.pieces.invariant.come begin start i)

@@ -93,3 +93,22 @@ feed-requires-clause-told g c = let (begin, start, i) = c.requires.come in ([], 
 
 pub feed-requires-clause-fresh : goal.feed-requires-clause-fresh
 feed-requires-clause-fresh g c = let (begin, start, i) = c.requires.come in i.fresh
+
+pub returns-then-got-eq0-clause-ended : goal.returns-then-got-eq0-clause-ended
+returns-then-got-eq0-clause-ended g c =
+    let same : length c.take.new.buffer ≡ length c.args.buffer.now = search rules in
+    λ zero begin start i. (
+      record {
+        fresh = i.fresh;
+        viable = i.viable;
+        counted = refl;
+        eaten = ate_nothing _ _ _ c.args.telling.now.seen.bytes _ c.in-Ok.got i.eaten c.in-Ok.ensures.bytes.0 c.if-got-eq0.true;
+        stands = i.stands;
+      },
+      (c.in_ok-finish.ensures.good.0 refl).1,
+      c.in-Ok.ensures.bytes.1 c.if-got-eq0.true (omega (arith, same, c.requires.some)),
+      c.in-Ok.ensures.good,
+    )
+
+pub returns-clause-ended : goal.returns-clause-ended
+returns-clause-ended g c = λ zero. absurd (c.if-got-eq0.false zero)
