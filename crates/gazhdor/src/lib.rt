@@ -17,11 +17,6 @@
 pub mod laws;
 pub mod pieces;
 
-// Files: what they are made of. Base types have their names in `base_type`.
-pub use fit_base::{Bits, Class, Code, Entries, Items, Order, base_type};
-pub use fit_frame::{Header, HeaderSum, PROTOCOL_2_0};
-pub use fit_record::{CHAIN_LIMIT, DevDef, FieldDef, FitFile, MessageDef, Record, Values};
-
 // Reading: from a `Source`, or as bytes come. A `Fault` says where and why it ended.
 pub use fit_chain::{Event, Fault, Fed};
 pub use fit_decode::{
@@ -34,6 +29,11 @@ pub use fit_frame::Reason;
 pub use fit_encode::{
     CutSink, EncodeFault, Encoder, Sink, SinkFailed, WriteSink, put_all, write_chain, write_one,
 };
+
+// Files: what they are made of. Base types have their names in `base_type`.
+pub use fit_base::{Bits, Class, Code, Entries, Items, Order, base_type};
+pub use fit_frame::{Header, HeaderSum, PROTOCOL_2_0};
+pub use fit_record::{CHAIN_LIMIT, DevDef, FieldDef, FitFile, MessageDef, Record, Values};
 
 // Meaning: what messages say by the records before them, with names, units, exact values and times.
 pub use fit_names::{
