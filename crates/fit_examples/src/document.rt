@@ -11,10 +11,7 @@ ghost use Rattle.fit_examples.specs.Rates.{PutsRates, ReportsRates, are_some, mo
 
 use crate::Moment;
 use crate::moments::moment_told;
-use fit_decode::{Event, Source};
-use fit_encode::Sink;
-use fit_profile::Stream;
-use fit_report::{Document, Report, ReportFault, report_document};
+use gazhdor::{Document, Event, Report, ReportFault, Sink, Source, Stream, report_document};
 use itoa::Buffer;
 use std::alloc::{AllocError, Global};
 

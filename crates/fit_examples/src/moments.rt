@@ -11,14 +11,11 @@ ghost use Rattle.fit_report.specs.Heard.{AreHeard, hear, latest_records};
 ghost use Rattle.fit_examples.specs.HeartRates.{file_moments, heart_rate, moments_in, record_moments};
 ghost use Rattle.fit_examples.specs.inner.Noting.{event_moments, records_after_event};
 
-use fit_base::base_type::UINT8;
-use fit_decode::laws::events_are_one;
-use fit_decode::{Decoder, Event, Fault};
-use fit_profile::field_number::HEART_RATE;
-use fit_profile::laws::looking_back_is_learning;
-use fit_profile::message_number::RECORD;
-use fit_profile::{Message, Stream};
-use fit_report::laws::heard_records_fit;
+use gazhdor::base_type::UINT8;
+use gazhdor::field_number::HEART_RATE;
+use gazhdor::laws::{events_are_one, heard_records_fit, looking_back_is_learning};
+use gazhdor::message_number::RECORD;
+use gazhdor::{Decoder, Event, Fault, Message, Stream};
 use std::alloc::{AllocError, Global};
 
 /// The invalid uint8.

@@ -3,13 +3,13 @@ ghost use Rattle.std.specs.Prelude.{◌≡◌, ◌∷◌, ◌+◌, ◌*◌, ◌^
 ghost use Rattle.fit_record.specs.declared.message.Record.TheVariants.{Define as Defines};
 ghost use Rattle.fit_examples.specs.Recordings.{IsRecording, IsRideFault, definition, ride_message, lone, FitsRide};
 
-use fit_base::base_type::{UINT8, UINT32};
-use fit_base::{Entries, Items, Order};
-use fit_encode::{EncodeFault, Encoder, WriteSink};
-use fit_frame::{Header, PROTOCOL_2_0};
-use fit_profile::field_number::{HEART_RATE, TIMESTAMP};
-use fit_profile::message_number::RECORD;
-use fit_record::{FieldDef, MessageDef, Record, Values};
+use gazhdor::base_type::{UINT8, UINT32};
+use gazhdor::field_number::{HEART_RATE, TIMESTAMP};
+use gazhdor::message_number::RECORD;
+use gazhdor::{
+    EncodeFault, Encoder, Entries, FieldDef, Header, Items, MessageDef, Order, PROTOCOL_2_0,
+    Record, Values, WriteSink,
+};
 use std::alloc::{AllocError, Global};
 
 /// How many points fit into a data section, which has less than 2^32 bytes.

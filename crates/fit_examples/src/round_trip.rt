@@ -7,10 +7,8 @@ ghost use Rattle.fit_encode.specs.Faults.{IfRefused, IsFirstFault};
 ghost use Rattle.fit_examples.specs.RoundTrips.{EncodeLacksMemory};
 ghost use Rattle.fit_chain.specs.Checks.{LacksMemory};
 
-use fit_decode::{Fault, read_one};
-use fit_encode::laws::good_chains_have_no_fault;
-use fit_encode::{EncodeFault, WriteSink, write_one};
-use fit_record::FitFile;
+use gazhdor::laws::good_chains_have_no_fault;
+use gazhdor::{EncodeFault, Fault, FitFile, WriteSink, read_one, write_one};
 use std::alloc::Global;
 
 /// Reads the file that begins the bytes. Returns it, and how many bytes are left after it.

@@ -9,8 +9,7 @@ ghost use Rattle.fit_cells.specs.Rows.{csv_text};
 ghost use Rattle.fit_table.specs.Table.{table_of};
 ghost use Rattle.fit_examples.specs.Tables.{CsvLacksMemory, IsTableFault};
 
-use fit_csv::{CsvFault, table};
-use fit_encode::WriteSink;
+use gazhdor::{CsvFault, WriteSink, table};
 use std::alloc::Global;
 
 /// The table of a FIT file, or of a chain of such files, as CSV text: a row for each record message.

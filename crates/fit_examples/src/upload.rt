@@ -3,7 +3,7 @@ ghost use Rattle.std.specs.Prelude.{IfErr, OnOk};
 ghost use Rattle.std.specs.declared.alloc.Global.{Global};
 ghost use Rattle.fit_chain.specs.Checks.{AreChain, IsFaultOf, LacksMemory, LacksMemoryAt};
 
-use fit_decode::{Decoder, Fault};
+use gazhdor::{Decoder, Fault};
 use std::alloc::Global;
 
 /// Checks that an upload is a FIT file, or a chain of such files.
