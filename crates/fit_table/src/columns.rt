@@ -15,8 +15,9 @@ use fit_base::{Class, Code, Order, bits_at, width_of};
 use fit_cells::{NumberForm, number_form};
 use fit_profile::field_number::COMPRESSED_SPEED_DISTANCE;
 use fit_profile::message_number::RECORD;
-use fit_profile::{Fixed, field_info, value_of};
-use fit_record::{FieldDef, same_fields};
+use fit_profile::{Fixed, Stream, field_info, value_of};
+use fit_record::{Defined, FieldDef, same_fields};
+use fit_texts::Finding;
 use std::alloc::{AllocError, Global};
 use std::marker::Model;
 
@@ -280,7 +281,7 @@ impl Places {
 
 /// The fields of record messages, and where the numbers of the table stand in their bytes.
 #[derive(Drop)]
-pub(crate) struct Columns {
+pub struct Columns {
     fields: Vec<FieldDef>,
     places: Places,
 }
@@ -335,5 +336,31 @@ impl Columns {
         ensures { ArePlaces self.now result.now }
     {
         &self.places
+    }
+}
+
+impl Finding for Columns {
+    ghost use Rattle.fit_table.specs.inner.TableColumns.{column_fields};
+
+    type Tools = Global;
+
+    ghost found_of = { column_fields };
+
+    fn find(
+        found: &mut Option<Self>,
+        alloc: &mut Global,
+        _stream: &Stream,
+        _local: u8,
+        defined: &Defined,
+    ) -> Result<(), AllocError> {
+        let fields = defined.definition.fields.as_slice();
+        let Some(columns) = found else {
+            *found = Some(Columns::new(*alloc, fields)?);
+            return Ok(());
+        };
+        if columns.are_of(fields) {
+            return Ok(());
+        }
+        columns.renew(fields)
     }
 }

@@ -12,6 +12,7 @@ use Rattle.fit_record.specs.declared.definition.MessageDef.{MessageDef}
 use Rattle.fit_record.specs.declared.message.Values.{Values}
 use Rattle.fit_numbers.specs.FixedText.{fixed_text}
 use Rattle.fit_profile.specs.declared.told.Told.{Told}
+use Rattle.fit_profile.specs.Described.{Naming}
 use Rattle.fit_profile.specs.Looks.{first_field}
 use Rattle.fit_profile.specs.Names.{field}
 use Rattle.fit_profile.specs.Profile.{Meaning}
@@ -30,7 +31,6 @@ use Rattle.fit_table.specs.declared.columns.Column.{Column}
 use Rattle.fit_table.specs.declared.columns.Column.TheVariants.{Absent, At, Wide}
 use Rattle.fit_table.specs.declared.numbers.in_bytes.NumbersInBytes.{NumbersInBytes}
 use Rattle.fit_record.specs.declared.environment.Defined.{Defined}
-use Rattle.fit_record.specs.declared.message.Record.{Record}
 
 -- the numbers of the fields whose positions the table shows
 abbrev pub is_position : ℕ → Bool
@@ -162,6 +162,6 @@ pub record AreInBytes (p : Places) (o : Order) (bytes : List ℕ) (a : Option Am
 abbrev pub AreNumbers : NumbersInBytes → MessageDef Global → Values Global → Told → Type 0
 AreNumbers n d v t = AreInBytes n.places.now n.order n.bytes.now (option_map (λ a. a.now) n.amounts) d v t
 
--- what the columns of the table are kept of
-abbrev pub column_fields : List (Record Global) → ℕ → Defined Global → List FieldDef
-column_fields before local p = p.definition.fields
+-- what the columns of the table are found out of, in a definition of a local message type with these names of its developer fields
+abbrev pub column_fields : ℕ → Defined Global → List Naming → List FieldDef
+column_fields local p namings = p.definition.fields
