@@ -105,7 +105,7 @@ impl<T: Finding> Findings<T> {
             ≡ Some (Some (T.found_of local defined.now (namings_at stream.now local)))) }
         ensures current { AreCurrent T.found_of self.new stream.now }
     {
-        note(&mut self.current, local, false);
+        self.forget_one(local);
         make_place(&mut self.items, local as usize)?;
         T::find(
             &mut self.items[local as usize],
