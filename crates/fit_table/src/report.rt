@@ -9,10 +9,6 @@ use fit_record::{MessageBytes, MessageDef};
 use fit_texts::{Findings, Moment, TextMaker, TextReport};
 use std::alloc::{AllocError, Global};
 
-/// The first line of the table.
-pub const TABLE_LINE: &[u8] =
-    b"file,timestamp,position_lat,position_long,altitude,distance,speed,heart_rate,cadence,power,temperature\n";
-
 impl TextMaker for TableMaker {
     ghost use Rattle.fit_table.specs.EventTexts.{table_text};
 
