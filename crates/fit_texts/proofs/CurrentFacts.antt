@@ -1,8 +1,9 @@
 -- What was found out of definitions and is known to be that of those that count.
 use Rattle.fit_texts.proofs.Common.{◌≡◌, ◌∙◌, sym, ap, subst, Bool, true, inl, inr, false, refl, zero, suc, [], ◌∷◌, set, slice_get}
 use Rattle.fit_texts.proofs.Common.{Defined, Record, Global, Naming, Data, Values, defined_at, known, namings_at, AreCurrent, IsCurrent}
-use Rattle.std.proofs.Common.{ℕ, List, Some, None, Option, ◌==◌}
+use Rattle.std.proofs.Common.{ℕ, List, Some, None, Option, ◌==◌, eq-eqb, get_or}
 use Rattle.std.proofs.lemmas.Bool.{cases_Bool, cases_eq, eqb-true}
+use Rattle.std.proofs.lemmas.Option.{same_Some}
 use Rattle.std.proofs.lemmas.List.{get_or-set_other}
 use Rattle.fit_record.specs.Environment.{Environment, defined_by, describe}
 use Rattle.fit_record.specs.declared.definition.MessageDef.{MessageDef}

@@ -1,7 +1,7 @@
 use Rattle.fit_texts.proofs.Common.{◌≡◌, ◌∙◌, ◌++◌, ◌∷◌, [], length, ap, arith, slice_get}
 use Rattle.std.proofs.Common.{◌+◌, zero, suc, ℕ, List, None, Some}
 use Rattle.std.proofs.lemmas.List.{length-append}
-use Rattle.fit_texts.proofs.found.make_place.Goals as goal
+use Rattle.fit_texts.proofs.found.make_places.Goals as goal
 
 -- what stands in a list still stands there with more after it
 with_more : {X : Type 0} (xs ys : List X) (k : ℕ) (x : X) → slice_get xs k ≡ Some x → slice_get (xs ++ ys) k ≡ Some x
@@ -23,3 +23,6 @@ loop-preserved g c =
 pub returns-in_err-push-clause-others : goal.returns-in_err-push-clause-others
 returns-in_err-push-clause-others g c = λ other t is.
     ap (λ items. slice_get items other) c.in_err-push.ensures.items ∙ c.loop.invariant.1 other t is
+
+pub returns-clause-here : goal.returns-clause-here
+returns-clause-here g c = omega (arith, c.loop.invariant.0, c.loop-test.false, c.len-counter.ensures)

@@ -1,6 +1,6 @@
 use Rattle.fit_texts.proofs.Common.{◌≡◌, length, slice_get}
 use Rattle.std.proofs.Common.{ℕ, Some}
-use Rattle.fit_texts.proofs.found.make_place.Given as goal
+use Rattle.fit_texts.proofs.found.make_places.Given as goal
 
 abbrev pub invariant-loop : goal.invariant-loop
 invariant-loop g l =
