@@ -1,5 +1,5 @@
 //! The rows of the table.
-ghost use Rattle.std.specs.Prelude.{◌≡◌, ◌≤◌, ◌<◌, ◌+◌, ◌*◌, ◌/◌, ◌++◌, ◌∷◌, [], OnOk, decimal, length, option_map, pos, take};
+ghost use Rattle.std.specs.Prelude.{◌≡◌, ◌≤◌, ◌<◌, ◌+◌, ◌*◌, ◌/◌, ◌++◌, ◌∷◌, [], OnOk, decimal, length, option_map, pos, take, true};
 ghost use Rattle.std.specs.Global.{Global};
 ghost use Rattle.fit_record.specs.Faults.{or_else};
 ghost use Rattle.fit_record.specs.declared.definition.MessageDef.{MessageDef};
