@@ -1,5 +1,5 @@
 -- The table of a chain: it is that of its events, and its text reads as its rows.
-use Rattle.fit_table.proofs.Common.{◌≡◌, ◌≢◌, ◌∙◌, ◌+◌, Bool, true, false, [], ◌∷◌, ◌++◌, map, refl, sym, ap, arith, append_assoc, flat_map, AllByRecursion}
+use Rattle.fit_table.proofs.Common.{◌≡◌, ◌≢◌, drop, ◌∙◌, ◌+◌, Bool, true, false, [], ◌∷◌, ◌++◌, map, refl, sym, ap, arith, append_assoc, flat_map, AllByRecursion}
 use Rattle.fit_table.proofs.Common.{Defined, FitFile, Record, Define, Data, Values, defined_at, Event, item, file_end, file_events, known, NoneEmpty, Row}
 use Rattle.fit_table.proofs.Common.{RowsOfText, csv_text, begins-otherwise, reads_back, table_events_rows, table_files_rows, table_line, table_of}
 use Rattle.fit_table.proofs.Common.{table_record_rows, table_records_rows, table_row, table_rows}
@@ -81,8 +81,5 @@ none-empty (r ∷ rows) some = (some.0, none-empty rows some.1)
 -- the text of a chain's table reads as its rows
 pub table-reads-back : {A : Type 0} (files : List (FitFile A)) → RowsOfText (csv_text (table_rows files)) (table_rows files)
 table-reads-back files =
-    let others =
-    codes "timestamp" ∷ codes "position_lat" ∷ codes "position_long" ∷ codes "altitude" ∷ codes "distance" ∷ codes "speed" ∷ codes "heart_rate"
-    ∷ codes "cadence" ∷ codes "power" ∷ codes "temperature" ∷ [] in
     reads_back (table_rows files) (none-empty (table_rows files) ((λ e. cc e), files-some 1 files))
-    (begins-otherwise 102 (codes "ile") others (table_files_rows 1 files) (omega arith))
+    (begins-otherwise 102 (codes "ile") (drop 1 table_line) (table_files_rows 1 files) (omega arith))

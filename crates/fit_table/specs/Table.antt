@@ -41,16 +41,18 @@ degrees_text d v number =
     option_and_then (λ f. if f.0.code == 0x85 then option_map (λ s. fixed_text (degrees_of s) 7) (first_number f.0 f.1) else None)
     (first_field d.fields v.fields number)
 
--- The row of a record message of the file of this number: what stands in the message itself comes before what is accumulated from field 8.
-abbrev pub table_row : {A : Type 0} → ℕ → MessageDef A → Values A → Told → Row
-table_row file d v t =
-    decimal file ∷ map (λ cell. unwrap_or cell [])
-    (option_map instant_text t.time
-    ∷ degrees_text d v 0 ∷ degrees_text d v 1
+-- The cells of a record message, where it has them: what stands in the message itself comes before what is accumulated from field 8.
+abbrev pub number_cells : {A : Type 0} → MessageDef A → Values A → Told → List (Option Cell)
+number_cells d v t =
+    degrees_text d v 0 ∷ degrees_text d v 1
     ∷ or_else (value_text d v 78) (value_text d v 2)
     ∷ or_else (value_text d v 5) (option_map (λ n. amount_text (pos n) 16 0) t.distance)
     ∷ or_else (value_text d v 73) (or_else (value_text d v 6) (option_map (λ n. amount_text (pos n) 100 0) t.speed))
-    ∷ value_text d v 3 ∷ value_text d v 4 ∷ value_text d v 7 ∷ value_text d v 13 ∷ [])
+    ∷ value_text d v 3 ∷ value_text d v 4 ∷ value_text d v 7 ∷ value_text d v 13 ∷ []
+
+-- the row of a record message of the file of this number: the file, the time and these cells
+abbrev pub table_row : {A : Type 0} → ℕ → MessageDef A → Values A → Told → Row
+table_row file d v t = decimal file ∷ map (λ cell. unwrap_or cell []) (option_map instant_text t.time ∷ number_cells d v t)
 
 -- a message of the file of this number, after the records before it in the file, latest first: one row where it is a record message
 abbrev pub table_message_rows : {A : Type 0} → ℕ → List (Record A) → Values A → List Row

@@ -1,13 +1,11 @@
 //! What record messages tell of a distance to accumulate, found out from their bytes.
-ghost use Rattle.std.specs.Global.{Global};
-ghost use Rattle.fit_record.specs.declared.message.Record.TheVariants.{Values as Data};
-ghost use Rattle.fit_record.specs.declared.message.Values.{Values};
-ghost use Rattle.fit_record.specs.Records.{IsRecord};
-ghost use Rattle.fit_profile.specs.Looks.{known};
+ghost use Rattle.fit_record.specs.MessageBytes.{message_in};
+ghost use Rattle.fit_profile.specs.Opened.{IsOpened};
 ghost use Rattle.fit_profile.specs.Told.{told};
 ghost use Rattle.fit_table.specs.inner.TableColumns.{AreAmounts};
 
 use fit_profile::{Fixed, Stream};
+use fit_record::MessageBytes;
 
 /// The speed in compressed_speed_distance in m/s, and the distance accumulated from it in m.
 #[derive(Clone, Copy)]
@@ -17,13 +15,12 @@ pub(crate) struct Amounts {
 }
 
 impl Amounts {
-    /// Those of the data message that the bytes are after the records of a stream.
-    pub(crate) fn of(stream: &Stream, bytes: &[u8]) -> Amounts
-        requires { (v : Values Global) × IsRecord (known stream.now) (Data v) bytes.now }
-        ensures { (v : Values Global) → IsRecord (known stream.now) (Data v) bytes.now
-            → AreAmounts result (told stream.now v) }
+    /// Those of a data message that is opened after the records of a stream.
+    pub(crate) fn of(stream: &Stream, message: &MessageBytes<'_>) -> Amounts
+        requires { IsOpened stream.now message.now }
+        ensures { AreAmounts result (told stream.now (message_in message.now)) }
     {
-        let (speed, distance) = stream.message_amounts(bytes);
+        let (speed, distance) = stream.message_amounts(message);
         Amounts { speed, distance }
     }
 }

@@ -6,17 +6,19 @@ ghost use Rattle.fit_base.specs.Numbers.{number};
 ghost use Rattle.fit_record.specs.declared.definition.FieldDef.{FieldDef};
 ghost use Rattle.fit_profile.specs.Values.{IsValueOf, valid_number};
 ghost use Rattle.fit_table.specs.declared.kinds.Kind.TheVariants.{Other};
-ghost use Rattle.fit_table.specs.inner.TableColumns.{ArePlaces, IsColumn, IsFirst, IsIn, IsKnown, IsPosition, IsSpot, IsSpotAt, ShowsNothing, is_position, is_tabled, items_at, meant_number};
+ghost use Rattle.fit_table.specs.inner.TableColumns.{AreColumns, ArePlaces, IsColumn, IsFirst, IsIn, IsKnown, IsPosition, IsSpot, IsSpotAt, ShowsNothing, is_position, items_at, meant_number, shown_number};
 ghost use Rattle.fit_table.specs.inner.TableKinds.{IsOfKind};
 
 use crate::kinds::Kind;
+use crate::rows::{SHOWN, TABLED, USUAL};
 use fit_base::base_type::SINT32;
 use fit_base::{Class, Code, Order, bits_at, width_of};
 use fit_cells::{NumberForm, number_form};
 use fit_profile::field_number::COMPRESSED_SPEED_DISTANCE;
 use fit_profile::message_number::RECORD;
-use fit_profile::{Fixed, field_info, value_of};
-use fit_record::{FieldDef, same_fields};
+use fit_profile::{Fixed, Stream, field_info, value_of};
+use fit_record::{Defined, FieldDef, same_fields};
+use fit_texts::Finding;
 use std::alloc::{AllocError, Global};
 use std::marker::Model;
 
@@ -145,7 +147,7 @@ fn spot_of(fields: &[FieldDef], number: u8) -> Option<Spot>
 }
 
 /// The place of a field of record messages, where the form of its items is known, as of numbers of at most four bytes.
-fn place_of(spot: Spot) -> Option<Place>
+fn place_of(spot: Spot, usual: Kind) -> Option<Place>
     ensures { IfSome result (λ p. (p.spot ≡ spot) × IsKnown p) }
 {
     let code = Code(spot.field.code);
@@ -154,28 +156,28 @@ fn place_of(spot: Spot) -> Option<Place>
     Some(Place {
         spot,
         form,
-        kind: Kind::of(spot.field.number, spot.field.code, form),
+        kind: Kind::of(usual, spot.field.code, form),
     })
 }
 
 /// The column of a first field of record messages.
-fn placed(spot: Spot) -> Column
+fn placed(spot: Spot, usual: Kind) -> Column
     ensures { (fields : List FieldDef) (number : ℕ) → IsFirst fields number spot
         → IsColumn fields number result }
 {
-    match place_of(spot) {
+    match place_of(spot, usual) {
         Some(place) => Column::At(place),
         None => Column::Wide(spot),
     }
 }
 
-/// The column of the first field of this number.
-fn column_of(fields: &[FieldDef], number: u8) -> Column
+/// The column of the first field of this number, whose numbers are of this kind in most recordings.
+fn column_of(fields: &[FieldDef], number: u8, usual: Kind) -> Column
     requires { length fields.now < 256 }
     ensures { IsColumn fields.now number result }
 {
     match spot_of(fields, number) {
-        Some(spot) => placed(spot),
+        Some(spot) => placed(spot, usual),
         None => Column::Absent,
     }
 }
@@ -194,6 +196,18 @@ fn position_of(fields: &[FieldDef], number: u8) -> Option<Spot>
     Some(spot)
 }
 
+/// The columns of the fields that the table shows, but for the position.
+fn columns_of(fields: &[FieldDef]) -> [Column; SHOWN]
+    requires { length fields.now < 256 }
+    ensures { AreColumns fields.now result }
+{
+    let mut columns = [Column::Absent; SHOWN];
+    for place in 0..SHOWN {
+        columns[place] = column_of(fields, TABLED[place], USUAL[place]);
+    }
+    columns
+}
+
 /// Whether one of the fields has this number.
 fn have(fields: &[FieldDef], number: u8) -> bool
     ensures { result ≡ list_any (λ f. f.number == number) fields.now }
@@ -208,15 +222,8 @@ pub(crate) struct Places {
     pub counts: bool,
     pub position_lat: Option<Spot>,
     pub position_long: Option<Spot>,
-    pub enhanced_altitude: Column,
-    pub altitude: Column,
-    pub distance: Column,
-    pub enhanced_speed: Column,
-    pub speed: Column,
-    pub heart_rate: Column,
-    pub cadence: Column,
-    pub power: Column,
-    pub temperature: Column,
+    /// Those of the fields that the table shows otherwise.
+    pub columns: [Column; SHOWN],
 }
 
 impl Places {
@@ -230,15 +237,7 @@ impl Places {
             counts: have(fields, COMPRESSED_SPEED_DISTANCE),
             position_lat: position_of(fields, 0),
             position_long: position_of(fields, 1),
-            enhanced_altitude: column_of(fields, 78),
-            altitude: column_of(fields, 2),
-            distance: column_of(fields, 5),
-            enhanced_speed: column_of(fields, 73),
-            speed: column_of(fields, 6),
-            heart_rate: column_of(fields, 3),
-            cadence: column_of(fields, 4),
-            power: column_of(fields, 7),
-            temperature: column_of(fields, 13),
+            columns: columns_of(fields),
         }
     }
 
@@ -256,31 +255,20 @@ impl Places {
         }
     }
 
-    /// The column of the first field of a number of the table.
+    /// The column of a field that the table shows, by its place among these.
     #[inline(always)]
-    pub(crate) fn column(&self, number: u8) -> &Column
-        requires { is_tabled number ≡ true }
+    pub(crate) fn column(&self, field: usize) -> &Column
+        requires { field < SHOWN }
         ensures { (fields : List FieldDef) → ArePlaces fields self.now
-            → IsColumn fields number result.now }
+            → IsColumn fields (shown_number field) result.now }
     {
-        match number {
-            2 => &self.altitude,
-            3 => &self.heart_rate,
-            4 => &self.cadence,
-            5 => &self.distance,
-            6 => &self.speed,
-            7 => &self.power,
-            13 => &self.temperature,
-            73 => &self.enhanced_speed,
-            78 => &self.enhanced_altitude,
-            _ => unreachable!(),
-        }
+        &self.columns[field]
     }
 }
 
 /// The fields of record messages, and where the numbers of the table stand in their bytes.
 #[derive(Drop)]
-pub(crate) struct Columns {
+pub struct Columns {
     fields: Vec<FieldDef>,
     places: Places,
 }
@@ -335,5 +323,31 @@ impl Columns {
         ensures { ArePlaces self.now result.now }
     {
         &self.places
+    }
+}
+
+impl Finding for Columns {
+    ghost use Rattle.fit_table.specs.inner.TableColumns.{column_fields};
+
+    type Tools = Global;
+
+    ghost found_of = { column_fields };
+
+    fn find(
+        found: &mut Option<Self>,
+        alloc: &mut Global,
+        _stream: &Stream,
+        _local: u8,
+        defined: &Defined,
+    ) -> Result<(), AllocError> {
+        let fields = defined.definition.fields.as_slice();
+        let Some(columns) = found else {
+            *found = Some(Columns::new(*alloc, fields)?);
+            return Ok(());
+        };
+        if columns.are_of(fields) {
+            return Ok(());
+        }
+        columns.renew(fields)
     }
 }

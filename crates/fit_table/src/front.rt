@@ -9,6 +9,9 @@ use fit_texts::{LAST_SYSTEM_MINUTE, SHORT, Stamp, put_minute, write_seconds};
 use std::alloc::{AllocError, Global};
 use std::marker::Model;
 
+/// How many bytes what a row begins with has at most, where it is short.
+pub(crate) const FRONT_SIZE: usize = 35;
+
 /// How many bytes are set aside for what a row begins with and what is cut off after it.
 const FRONT_ROOM: usize = 80;
 
@@ -66,9 +69,9 @@ impl Front {
     #[inline(always)]
     pub(crate) fn write(&self, row: &mut [u8], at: usize, time: u32) -> usize
         requires minute { time / 60 ≡ self.now.1 }
-        requires room { at + 35 ≤ length row.old }
+        requires room { at + FRONT_SIZE ≤ length row.old }
         ensures size { length row.new ≡ length row.old }
-        ensures within { result ≤ at + 35 }
+        ensures within { result ≤ at + FRONT_SIZE }
         ensures text { take result row.new
             ≡ take at row.old ++ (decimal self.now.0 ++ (44 ∷ instant_text time)) }
     {

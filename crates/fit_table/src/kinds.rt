@@ -63,22 +63,6 @@ fn is_same(a: NumberForm, b: NumberForm) -> bool
 }
 
 impl Kind {
-    /// That of most recordings in the first field of this number of record messages.
-    #[inline(always)]
-    pub(crate) fn usual(number: u8) -> Kind {
-        match number {
-            2 => Kind::ShortHeight,
-            3 | 4 => Kind::Byte,
-            5 => Kind::LongHundredths,
-            6 => Kind::ShortThousandths,
-            7 => Kind::Short,
-            13 => Kind::SignedByte,
-            73 => Kind::LongThousandths,
-            78 => Kind::LongHeight,
-            _ => Kind::Other,
-        }
-    }
-
     /// The base type.
     #[inline(always)]
     pub(crate) fn code(self) -> u8
@@ -110,13 +94,12 @@ impl Kind {
         }
     }
 
-    /// The kind of the numbers of a field of record messages, where it is the usual one.
-    pub(crate) fn of(number: u8, code: u8, form: NumberForm) -> Kind
+    /// The kind of the numbers of a field, where it is this usual one.
+    pub(crate) fn of(usual: Kind, code: u8, form: NumberForm) -> Kind
         ensures { IsOfKind result code form }
     {
-        let kind = Kind::usual(number);
-        if code == kind.code() && is_same(form, kind.form()) {
-            kind
+        if code == usual.code() && is_same(form, usual.form()) {
+            usual
         } else {
             Kind::Other
         }

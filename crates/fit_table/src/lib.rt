@@ -11,4 +11,5 @@ mod numbers;
 mod report;
 mod rows;
 
-pub use report::{TABLE_LINE, TableReport};
+pub use report::TableReport;
+pub use rows::TABLE_LINE;

@@ -1,5 +1,5 @@
 //! The rows of the table.
-ghost use Rattle.std.specs.Prelude.{◌≡◌, ◌≤◌, ◌+◌, ◌/◌, ◌++◌, ◌∷◌, [], OnOk, decimal, length, option_map, pos, take, true};
+ghost use Rattle.std.specs.Prelude.{◌≡◌, ◌≤◌, ◌<◌, ◌+◌, ◌*◌, ◌/◌, ◌++◌, ◌∷◌, [], OnOk, decimal, length, option_map, pos, take, true};
 ghost use Rattle.std.specs.Global.{Global};
 ghost use Rattle.fit_record.specs.Faults.{or_else};
 ghost use Rattle.fit_record.specs.declared.definition.MessageDef.{MessageDef};
@@ -9,30 +9,85 @@ ghost use Rattle.fit_cells.specs.Rows.{HasRows};
 ghost use Rattle.fit_texts.specs.InstantText.{instant_text};
 ghost use Rattle.fit_table.specs.Table as table;
 ghost use Rattle.fit_table.specs.inner.TableCells.{AddsCell, AddsCells, AreSome, EndsRow, effort_cells, place_cells};
-ghost use Rattle.fit_table.specs.inner.TableColumns.{AreNumbers, is_position, is_tabled};
+ghost use Rattle.fit_table.specs.inner.TableColumns.{AreNumbers, is_position, shown_number};
 
-use crate::front::{Firsts, Front, put_first};
+use crate::front::{FRONT_SIZE, Firsts, Front, put_first};
+use crate::kinds::Kind;
 use crate::numbers::in_bytes::NumbersInBytes;
 use fit_numbers::write_byte;
 use std::alloc::{AllocError, Global};
 
-/// How many bytes a row has at most, where what it begins with is short.
-const ROW_SIZE: usize = 477;
+/// The first line of the table: the names of its columns, in their order.
+pub const TABLE_LINE: &[u8] =
+    b"file,timestamp,position_lat,position_long,altitude,distance,speed,heart_rate,cadence,power,temperature\n";
 
-/// Writes the cell of the first field of this number.
+/// How many of its cells `add_place` and `add_effort` write: all but those of the file and the time.
+const PLACE_CELLS: usize = 4;
+
+const EFFORT_CELLS: usize = 5;
+
+/// The numbers of the fields of record messages that it shows, but for the position.
+pub(crate) const TABLED: [u8; 9] = [78, 2, 5, 73, 6, 3, 4, 7, 13];
+
+/// How many these are.
+pub(crate) const SHOWN: usize = TABLED.len();
+
+/// Each of these fields, by its place among them.
+const ENHANCED_ALTITUDE: usize = 0;
+
+const ALTITUDE: usize = 1;
+
+const DISTANCE: usize = 2;
+
+const ENHANCED_SPEED: usize = 3;
+
+const SPEED: usize = 4;
+
+const HEART_RATE: usize = 5;
+
+const CADENCE: usize = 6;
+
+const POWER: usize = 7;
+
+const TEMPERATURE: usize = 8;
+
+/// The kind of the numbers of each in most recordings.
+pub(crate) const USUAL: [Kind; SHOWN] = [
+    Kind::LongHeight,
+    Kind::ShortHeight,
+    Kind::LongHundredths,
+    Kind::LongThousandths,
+    Kind::ShortThousandths,
+    Kind::Byte,
+    Kind::Byte,
+    Kind::Short,
+    Kind::SignedByte,
+];
+
+/// How many bytes a cell has at most, with the comma before it.
+const CELL_SIZE: usize = 49;
+
+/// How many bytes the numbers of a row have at most, with the end of the line.
+const NUMBERS_SIZE: usize = CELL_SIZE * (PLACE_CELLS + EFFORT_CELLS) + 1;
+
+/// How many bytes a row has at most, where what it begins with is short.
+const ROW_SIZE: usize = FRONT_SIZE + NUMBERS_SIZE;
+
+/// Writes the cell of a field that the table shows, by its place among these.
 #[inline(always)]
-fn add_value(row: &mut [u8], at: usize, numbers: &NumbersInBytes, number: u8) -> usize
+fn add_value(row: &mut [u8], at: usize, numbers: &NumbersInBytes, field: usize) -> usize
     requires numbers { AreSome (AreNumbers numbers.now) }
-    requires tabled { is_tabled number ≡ true }
-    requires room { at + 49 ≤ length row.old }
+    requires shown { field < SHOWN }
+    requires room { at + CELL_SIZE ≤ length row.old }
     ensures size { length row.new ≡ length row.old }
-    ensures within { result ≤ at + 49 }
+    ensures within { result ≤ at + CELL_SIZE }
     ensures cell { (d : MessageDef Global) (v : Values Global) (t : Told)
         → AreNumbers numbers.now d v t
-        → AddsCell (table.value_text d v number) (take at row.old) (take result row.new) }
+        → AddsCell (table.value_text d v (shown_number field))
+        (take at row.old) (take result row.new) }
 {
     let at = write_byte(row, at, b',');
-    numbers.write_value(row, at, number).1
+    numbers.write_value(row, at, field).1
 }
 
 /// Writes the cell of the position in the first field of this number.
@@ -40,9 +95,9 @@ fn add_value(row: &mut [u8], at: usize, numbers: &NumbersInBytes, number: u8) ->
 fn add_position(row: &mut [u8], at: usize, numbers: &NumbersInBytes, number: u8) -> usize
     requires numbers { AreSome (AreNumbers numbers.now) }
     requires position { is_position number ≡ true }
-    requires room { at + 49 ≤ length row.old }
+    requires room { at + CELL_SIZE ≤ length row.old }
     ensures size { length row.new ≡ length row.old }
-    ensures within { result ≤ at + 49 }
+    ensures within { result ≤ at + CELL_SIZE }
     ensures cell { (d : MessageDef Global) (v : Values Global) (t : Told)
         → AreNumbers numbers.now d v t
         → AddsCell (table.degrees_text d v number) (take at row.old) (take result row.new) }
@@ -55,29 +110,29 @@ fn add_position(row: &mut [u8], at: usize, numbers: &NumbersInBytes, number: u8)
 #[inline(always)]
 fn add_altitude(row: &mut [u8], at: usize, numbers: &NumbersInBytes) -> usize
     requires numbers { AreSome (AreNumbers numbers.now) }
-    requires room { at + 49 ≤ length row.old }
+    requires room { at + CELL_SIZE ≤ length row.old }
     ensures size { length row.new ≡ length row.old }
-    ensures within { result ≤ at + 49 }
+    ensures within { result ≤ at + CELL_SIZE }
     ensures cell { (d : MessageDef Global) (v : Values Global) (t : Told)
         → AreNumbers numbers.now d v t
         → AddsCell (or_else (table.value_text d v 78) (table.value_text d v 2))
         (take at row.old) (take result row.new) }
 {
     let at = write_byte(row, at, b',');
-    let (is_enhanced, at) = numbers.write_value(row, at, 78);
+    let (is_enhanced, at) = numbers.write_value(row, at, ENHANCED_ALTITUDE);
     if is_enhanced {
         return at;
     }
-    numbers.write_value(row, at, 2).1
+    numbers.write_value(row, at, ALTITUDE).1
 }
 
 /// Writes the cell of the distance.
 #[inline(always)]
 fn add_distance(row: &mut [u8], at: usize, numbers: &NumbersInBytes) -> usize
     requires numbers { AreSome (AreNumbers numbers.now) }
-    requires room { at + 49 ≤ length row.old }
+    requires room { at + CELL_SIZE ≤ length row.old }
     ensures size { length row.new ≡ length row.old }
-    ensures within { result ≤ at + 49 }
+    ensures within { result ≤ at + CELL_SIZE }
     ensures cell { (d : MessageDef Global) (v : Values Global) (t : Told)
         → AreNumbers numbers.now d v t
         → AddsCell (or_else (table.value_text d v 5)
@@ -85,7 +140,7 @@ fn add_distance(row: &mut [u8], at: usize, numbers: &NumbersInBytes) -> usize
         (take at row.old) (take result row.new) }
 {
     let at = write_byte(row, at, b',');
-    let (is_own, at) = numbers.write_value(row, at, 5);
+    let (is_own, at) = numbers.write_value(row, at, DISTANCE);
     if is_own {
         return at;
     }
@@ -96,9 +151,9 @@ fn add_distance(row: &mut [u8], at: usize, numbers: &NumbersInBytes) -> usize
 #[inline(always)]
 fn add_speed(row: &mut [u8], at: usize, numbers: &NumbersInBytes) -> usize
     requires numbers { AreSome (AreNumbers numbers.now) }
-    requires room { at + 49 ≤ length row.old }
+    requires room { at + CELL_SIZE ≤ length row.old }
     ensures size { length row.new ≡ length row.old }
-    ensures within { result ≤ at + 49 }
+    ensures within { result ≤ at + CELL_SIZE }
     ensures cell { (d : MessageDef Global) (v : Values Global) (t : Told)
         → AreNumbers numbers.now d v t
         → AddsCell (or_else (table.value_text d v 73) (or_else (table.value_text d v 6)
@@ -106,11 +161,11 @@ fn add_speed(row: &mut [u8], at: usize, numbers: &NumbersInBytes) -> usize
         (take at row.old) (take result row.new) }
 {
     let at = write_byte(row, at, b',');
-    let (is_enhanced, at) = numbers.write_value(row, at, 73);
+    let (is_enhanced, at) = numbers.write_value(row, at, ENHANCED_SPEED);
     if is_enhanced {
         return at;
     }
-    let (is_own, at) = numbers.write_value(row, at, 6);
+    let (is_own, at) = numbers.write_value(row, at, SPEED);
     if is_own {
         return at;
     }
@@ -121,9 +176,9 @@ fn add_speed(row: &mut [u8], at: usize, numbers: &NumbersInBytes) -> usize
 #[inline(never)]
 fn add_place(row: &mut [u8], at: usize, numbers: &NumbersInBytes) -> usize
     requires numbers { AreSome (AreNumbers numbers.now) }
-    requires room { at + 196 ≤ length row.old }
+    requires room { at + CELL_SIZE * PLACE_CELLS ≤ length row.old }
     ensures size { length row.new ≡ length row.old }
-    ensures within { result ≤ at + 196 }
+    ensures within { result ≤ at + CELL_SIZE * PLACE_CELLS }
     ensures cells { (d : MessageDef Global) (v : Values Global) (t : Told)
         → AreNumbers numbers.now d v t
         → AddsCells (place_cells d v t) (take at row.old) (take result row.new) }
@@ -138,31 +193,31 @@ fn add_place(row: &mut [u8], at: usize, numbers: &NumbersInBytes) -> usize
 #[inline(never)]
 fn add_effort(row: &mut [u8], at: usize, numbers: &NumbersInBytes) -> usize
     requires numbers { AreSome (AreNumbers numbers.now) }
-    requires room { at + 245 ≤ length row.old }
+    requires room { at + CELL_SIZE * EFFORT_CELLS ≤ length row.old }
     ensures size { length row.new ≡ length row.old }
-    ensures within { result ≤ at + 245 }
+    ensures within { result ≤ at + CELL_SIZE * EFFORT_CELLS }
     ensures cells { (d : MessageDef Global) (v : Values Global) (t : Told)
         → AreNumbers numbers.now d v t
         → AddsCells (effort_cells d v t) (take at row.old) (take result row.new) }
 {
     let at = add_speed(row, at, numbers);
-    let at = add_value(row, at, numbers, 3);
-    let at = add_value(row, at, numbers, 4);
-    let at = add_value(row, at, numbers, 7);
-    add_value(row, at, numbers, 13)
+    let at = add_value(row, at, numbers, HEART_RATE);
+    let at = add_value(row, at, numbers, CADENCE);
+    let at = add_value(row, at, numbers, POWER);
+    add_value(row, at, numbers, TEMPERATURE)
 }
 
 /// Writes the numbers of a row and the end of its line into bytes from a place on. Returns the place after them.
 #[inline(always)]
 fn add_numbers(row: &mut [u8], at: usize, numbers: &NumbersInBytes) -> usize
     requires numbers { AreSome (AreNumbers numbers.now) }
-    requires room { at + 442 ≤ length row.old }
+    requires room { at + NUMBERS_SIZE ≤ length row.old }
     ensures cells { (d : MessageDef Global) (v : Values Global) (t : Told)
         → AreNumbers numbers.now d v t
         → EndsRow (place_cells d v t ++ effort_cells d v t)
         (take at row.old) (take result row.new) }
     ensures size { length row.new ≡ length row.old }
-    ensures within { result ≤ at + 442 }
+    ensures within { result ≤ at + NUMBERS_SIZE }
 {
     let at = add_place(row, at, numbers);
     let at = add_effort(row, at, numbers);
@@ -186,7 +241,7 @@ fn put_numbers(
     numbers: &NumbersInBytes,
 ) -> Result<(), AllocError>
     requires numbers { AreSome (AreNumbers numbers.now) }
-    requires room { 477 ≤ length row.old }
+    requires room { ROW_SIZE ≤ length row.old }
     ensures { OnOk result ((d : MessageDef Global) (v : Values Global) (t : Told)
         → AreNumbers numbers.now d v t
         → EndsRow (place_cells d v t ++ effort_cells d v t) text.old.items text.new.items) }
@@ -206,7 +261,7 @@ fn put_begun(
 ) -> Result<(), AllocError>
     requires numbers { AreSome (AreNumbers numbers.now) }
     requires minute { time / 60 ≡ front.now.1 }
-    requires room { 477 ≤ length row.old }
+    requires room { ROW_SIZE ≤ length row.old }
     ensures { OnOk result ((d : MessageDef Global) (v : Values Global) (t : Told)
         → AreNumbers numbers.now d v t
         → EndsRow (place_cells d v t ++ effort_cells d v t)

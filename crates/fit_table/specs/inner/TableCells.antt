@@ -1,15 +1,14 @@
 -- How the cells of the table are put together. No public contract names these.
-use Rattle.std.specs.Prelude.{◌≡◌, ℕ, Bool, List, [], ◌∷◌, ◌++◌, is_some, map, option_map, unwrap_or, Option, pos}
+use Rattle.std.specs.Prelude.{◌≡◌, ℕ, Bool, List, [], ◌∷◌, ◌++◌, drop, is_some, map, option_map, take, unwrap_or, Option}
 use Rattle.std.specs.Global.{Global}
 use Rattle.csv.specs.Writing.{default_writer, fields_text}
-use Rattle.fit_record.specs.Faults.{or_else}
 use Rattle.fit_record.specs.declared.definition.MessageDef.{MessageDef}
 use Rattle.fit_record.specs.declared.message.Values.{Values}
 use Rattle.fit_profile.specs.declared.told.Told.{Told}
 use Rattle.fit_numbers.specs.declared.decimal.Fixed.{Fixed}
 use Rattle.fit_numbers.specs.FixedText.{fixed_text}
 use Rattle.fit_cells.specs.Rows.{Cell}
-use Rattle.fit_table.specs.Table.{amount_text, degrees_text, value_text}
+use Rattle.fit_table.specs.Table.{number_cells}
 
 -- the text of a number, where there is one
 abbrev pub shown_text : Option Fixed → Option Cell
@@ -32,15 +31,11 @@ EndsRow cells old new = new ≡ (old ++ fields_text default_writer (map (λ cell
 
 -- the cells of a row from the positions to the distance
 abbrev pub place_cells : {A : Type 0} → MessageDef A → Values A → Told → List (Option Cell)
-place_cells d v t =
-    degrees_text d v 0 ∷ degrees_text d v 1 ∷ or_else (value_text d v 78) (value_text d v 2)
-    ∷ or_else (value_text d v 5) (option_map (λ n. amount_text (pos n) 16 0) t.distance) ∷ []
+place_cells d v t = take 4 (number_cells d v t)
 
 -- the cells of a row from the speed on
 abbrev pub effort_cells : {A : Type 0} → MessageDef A → Values A → Told → List (Option Cell)
-effort_cells d v t =
-    or_else (value_text d v 73) (or_else (value_text d v 6) (option_map (λ n. amount_text (pos n) 100 0) t.speed))
-    ∷ value_text d v 3 ∷ value_text d v 4 ∷ value_text d v 7 ∷ value_text d v 13 ∷ []
+effort_cells d v t = drop 4 (number_cells d v t)
 
 -- There is a record message of a definition and with values that tells something, of which this holds.
 abbrev pub AreSome : (MessageDef Global → Values Global → Told → Type 0) → Type 0

@@ -1,5 +1,5 @@
 -- Where the numbers of the table stand in the bytes of record messages of a definition. No public contract names these definitions.
-use Rattle.std.specs.Prelude.{◌≡◌, ◌≤◌, ◌+◌, ◌==◌, ◌||◌, ℕ, Bool, List, Option, None, Some, false, drop, length, map, take, ℤ, pos, IsSomeAnd, IfSome}
+use Rattle.std.specs.Prelude.{◌≡◌, ◌≤◌, ◌<◌, ◌+◌, ◌==◌, ◌||◌, ℕ, Bool, List, Option, None, Some, false, drop, length, map, slice_index_or, take, ℤ, pos, IsSomeAnd, IfSome}
 use Rattle.std.specs.Prelude.{if◌then◌else◌, option_and_then, option_map}
 use Rattle.std.specs.Global.{Global}
 use Rattle.fit_base.specs.declared.number.Order.{Order}
@@ -12,6 +12,7 @@ use Rattle.fit_record.specs.declared.definition.MessageDef.{MessageDef}
 use Rattle.fit_record.specs.declared.message.Values.{Values}
 use Rattle.fit_numbers.specs.FixedText.{fixed_text}
 use Rattle.fit_profile.specs.declared.told.Told.{Told}
+use Rattle.fit_profile.specs.Described.{Naming}
 use Rattle.fit_profile.specs.Looks.{first_field}
 use Rattle.fit_profile.specs.Names.{field}
 use Rattle.fit_profile.specs.Profile.{Meaning}
@@ -28,18 +29,17 @@ use Rattle.fit_table.specs.declared.columns.Places.{Places}
 use Rattle.fit_table.specs.declared.columns.Spot.{Spot}
 use Rattle.fit_table.specs.declared.columns.Column.{Column}
 use Rattle.fit_table.specs.declared.columns.Column.TheVariants.{Absent, At, Wide}
+use Rattle.fit_table.specs.declared.rows.TheConstants.{SHOWN, TABLED}
 use Rattle.fit_table.specs.declared.numbers.in_bytes.NumbersInBytes.{NumbersInBytes}
 use Rattle.fit_record.specs.declared.environment.Defined.{Defined}
-use Rattle.fit_record.specs.declared.message.Record.{Record}
 
 -- the numbers of the fields whose positions the table shows
 abbrev pub is_position : ℕ → Bool
 is_position n = (n == 0) || (n == 1)
 
--- the numbers of the other fields that it shows
-abbrev pub is_tabled : ℕ → Bool
-is_tabled n =
-    (n == 2) || (n == 3) || (n == 4) || (n == 5) || (n == 6) || (n == 7) || (n == 13) || (n == 73) || (n == 78)
+-- the number of another field that it shows, by the place of the field among these
+abbrev pub shown_number : ℕ → ℕ
+shown_number field = slice_index_or TABLED field 0
 
 -- base type code and size of each field
 abbrev pub slots : List FieldDef → List (ℕ × ℕ)
@@ -122,20 +122,16 @@ abbrev pub IsPosition : List FieldDef → ℕ → Option Spot → Type 0
 IsPosition fields number None = (o : Order) (bytes : List ℕ) → degrees_of_first (first_field fields (fields_from o (slots fields) bytes) number) ≡ None
 IsPosition fields number (Some s) = IsFirst fields number s × (s.field.code ≡ 0x85)
 
+-- the columns of the fields that the table shows, but for the position
+abbrev pub AreColumns : List FieldDef → List Column → Type 0
+AreColumns fields columns = (field : ℕ) → field < SHOWN → IsColumn fields (shown_number field) (slice_index_or columns field Absent)
+
 -- the columns of the table, and whether a field may have a distance to accumulate
 pub record ArePlaces (fields : List FieldDef) (p : Places) : Type 0 where
   pub counts : p.counts ≡ false → HaveNone fields 8
   pub position_lat : IsPosition fields 0 p.position_lat
   pub position_long : IsPosition fields 1 p.position_long
-  pub enhanced_altitude : IsColumn fields 78 p.enhanced_altitude
-  pub altitude : IsColumn fields 2 p.altitude
-  pub distance : IsColumn fields 5 p.distance
-  pub enhanced_speed : IsColumn fields 73 p.enhanced_speed
-  pub speed : IsColumn fields 6 p.speed
-  pub heart_rate : IsColumn fields 3 p.heart_rate
-  pub cadence : IsColumn fields 4 p.cadence
-  pub power : IsColumn fields 7 p.power
-  pub temperature : IsColumn fields 13 p.temperature
+  pub columns : AreColumns fields p.columns
 
 -- the speed and the distance that a message tells
 pub record AreAmounts (a : Amounts) (t : Told) : Type 0 where
@@ -162,6 +158,6 @@ pub record AreInBytes (p : Places) (o : Order) (bytes : List ℕ) (a : Option Am
 abbrev pub AreNumbers : NumbersInBytes → MessageDef Global → Values Global → Told → Type 0
 AreNumbers n d v t = AreInBytes n.places.now n.order n.bytes.now (option_map (λ a. a.now) n.amounts) d v t
 
--- what the columns of the table are kept of
-abbrev pub column_fields : List (Record Global) → ℕ → Defined Global → List FieldDef
-column_fields before local p = p.definition.fields
+-- what the columns of the table are found out of, in a definition of a local message type with these names of its developer fields
+abbrev pub column_fields : ℕ → Defined Global → List Naming → List FieldDef
+column_fields local p namings = p.definition.fields

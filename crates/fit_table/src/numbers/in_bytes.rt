@@ -1,17 +1,18 @@
 //! The numbers of record messages in their bytes, put in cells of the table.
-ghost use Rattle.std.specs.Prelude.{◌≡◌, ◌≤◌, ◌+◌, false, length, option_map, pos, take, true};
+ghost use Rattle.std.specs.Prelude.{◌≡◌, ◌≤◌, ◌<◌, ◌+◌, false, length, option_map, pos, take, true};
 ghost use Rattle.std.specs.Global.{Global};
 ghost use Rattle.fit_record.specs.declared.definition.MessageDef.{MessageDef};
 ghost use Rattle.fit_record.specs.declared.message.Values.{Values};
 ghost use Rattle.fit_profile.specs.declared.told.Told.{Told};
 ghost use Rattle.fit_table.specs.Table as table;
 ghost use Rattle.fit_table.specs.inner.TableCells.{AreSome, PutsCell};
-ghost use Rattle.fit_table.specs.inner.TableColumns.{AreNumbers, IsIn, IsKnown, PutsValue, is_position, is_tabled};
+ghost use Rattle.fit_table.specs.inner.TableColumns.{AreNumbers, IsIn, IsKnown, PutsValue, is_position, shown_number};
 
 use crate::amounts::Amounts;
 use crate::columns::{Column, Place, Places};
 use crate::kinds::Kind;
 use crate::numbers::{semicircles, write_degrees, write_number};
+use crate::rows::{SHOWN, TABLED, USUAL};
 use fit_base::Order;
 use fit_cells::write_formed;
 
@@ -62,12 +63,12 @@ fn write_other_at(
     write_value_at(row, at, place, order, bytes)
 }
 
-/// Writes the number at a place, where most recordings have numbers of one kind: it is that of the fields of this number.
+/// Writes the number at a place. Where it is of the kind that most recordings have there, what was compiled for this kind does it.
 #[inline(always)]
 fn write_placed(
     row: &mut [u8],
     at: usize,
-    number: u8,
+    usual: Kind,
     place: &Place,
     order: Order,
     bytes: &[u8],
@@ -81,7 +82,6 @@ fn write_placed(
     ensures cell { PutsValue place.now order bytes.now result.0
         (take at row.old) (take result.1 row.new) }
 {
-    let usual = Kind::usual(number);
     if usual != Kind::Other && place.kind == usual {
         return write_value_at(row, at, &place.of_kind(usual), order, bytes);
     }
@@ -98,25 +98,27 @@ pub(crate) struct NumbersInBytes<'a> {
 }
 
 impl<'a> NumbersInBytes<'a> {
-    /// Writes the number of the first field of this number into the bytes of a row from a place on. Returns whether there
-    /// is one, and the place after it.
+    /// Writes the number of a field that the table shows, by its place among these, into the bytes of a row from a place on.
+    /// Returns whether there is one, and the place after it.
     #[inline(always)]
-    pub(crate) fn write_value(&self, row: &mut [u8], at: usize, number: u8) -> (bool, usize)
+    pub(crate) fn write_value(&self, row: &mut [u8], at: usize, field: usize) -> (bool, usize)
         requires numbers { AreSome (AreNumbers self.now) }
-        requires tabled { is_tabled number ≡ true }
+        requires shown { field < SHOWN }
         requires room { at + 48 ≤ length row.old }
         ensures size { length row.new ≡ length row.old }
         ensures within { result.1 ≤ at + 48 }
         ensures none { result.0 ≡ false → result.1 ≡ at }
         ensures cell { (d : MessageDef Global) (v : Values Global) (t : Told)
             → AreNumbers self.now d v t
-            → PutsCell (table.value_text d v number)
+            → PutsCell (table.value_text d v (shown_number field))
             result.0 (take at row.old) (take result.1 row.new) }
     {
-        match self.places.column(number) {
-            Column::At(place) => write_placed(row, at, number, place, self.order, self.bytes),
+        match self.places.column(field) {
+            Column::At(place) => write_placed(row, at, USUAL[field], place, self.order, self.bytes),
             Column::Absent => (false, at),
-            Column::Wide(spot) => write_number(row, at, spot.value(number, self.order, self.bytes)),
+            Column::Wide(spot) => {
+                write_number(row, at, spot.value(TABLED[field], self.order, self.bytes))
+            }
         }
     }
 

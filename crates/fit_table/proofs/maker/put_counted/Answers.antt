@@ -4,10 +4,11 @@ use Rattle.fit_profile.specs.Told.{told}
 use Rattle.fit_table.proofs.RowsInBytes.{row_of_record}
 use Rattle.fit_table.proofs.maker.put_counted.Goals as goal
 
+pub put_placed-requires-clause-long : goal.put_placed-requires-clause-long
+put_placed-requires-clause-long c = c.requires.opened.size
+
 pub put_placed-requires-clause-some : goal.put_placed-requires-clause-some
-put_placed-requires-clause-some c =
-    let v = message_in c.args.message.now in
-    (told c.args.stream.now v, c.of-amounts.ensures v c.requires.record_)
+put_placed-requires-clause-some c = (told c.args.stream.now (message_in c.args.message.now), c.of-amounts.ensures)
 
 pub returns : goal.returns
 returns c =
@@ -16,5 +17,5 @@ returns c =
     let v = message_in m in
     on_ok_weaker c.put_placed.result (λ put.
     subst (λ rows. HasRows rows c.args.text.now c.put_placed.new.text)
-    (sym (row_of_record c.args.moment.file before v m.defined.now c.requires.defined c.requires.global))
-    (put (told before v) c.requires.time (c.of-amounts.ensures v c.requires.record_))) c.put_placed.ensures
+    (sym (row_of_record c.args.moment.file before v m.defined.now c.requires.opened.defined c.requires.global))
+    (put (told before v) c.requires.time c.of-amounts.ensures)) c.put_placed.ensures
