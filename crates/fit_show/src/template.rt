@@ -1,5 +1,5 @@
 //! The lines of the messages of a definition without their values, found out once for many messages.
-ghost use Rattle.std.specs.Prelude.{◌≡◌, ◌<◌, ◌≤◌, ◌+◌, ◌++◌, IfOk, IsTrue, OnOk, Some, codes, length, map};
+ghost use Rattle.std.specs.Prelude.{◌≡◌, ◌<◌, ◌≤◌, ◌+◌, ◌++◌, IfOk, OnOk, Some, codes, length, map};
 ghost use Rattle.fit_record.specs.Environment.{defined_at};
 ghost use Rattle.fit_record.specs.Sound.{IsSound};
 ghost use Rattle.fit_profile.specs.Looks.{known};
@@ -172,15 +172,6 @@ impl LineTemplate {
         })
     }
 
-    /// Whether it is that of the definition of this local message type after the records of a stream.
-    pub(crate) fn is_of(&self, stream: &Stream, local: u8, defined: &Defined) -> bool
-        requires place { defined_at (known stream.now) local ≡ Some defined.now }
-        requires sound { IsSound defined.now }
-        ensures { IsTrue result → self.now ≡ message_key stream.now local defined.now }
-    {
-        self.kept.is(stream, local, defined)
-    }
-
     /// Puts what a message with this time begins with. The sheet begins anew.
     #[inline(always)]
     fn put_label(
@@ -238,7 +229,7 @@ impl Finding for LineTemplate {
         defined: &Defined,
     ) -> Result<(), AllocError> {
         if let Some(template) = found {
-            if template.is_of(stream, local, defined) {
+            if template.kept.is(stream, local, defined) {
                 return Ok(());
             }
         }
