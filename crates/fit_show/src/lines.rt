@@ -1,26 +1,21 @@
 //! The lines of headers, definition messages and data messages.
-ghost use Rattle.std.specs.Prelude.{◌≡◌, ◌++◌, ◌∷◌, [], List, OnOk, Some, codes, decimal, length};
-ghost use Rattle.std.specs.Global.{Global};
-ghost use Rattle.fit_base.specs.declared.items.Items.{Items};
+ghost use Rattle.std.specs.Prelude.{◌≡◌, ◌++◌, ◌∷◌, [], OnOk, codes, decimal};
+ghost use Rattle.fit_record.specs.MessageBytes.{message_in};
 ghost use Rattle.fit_record.specs.declared.message.Record.TheVariants.{Values as Data};
-ghost use Rattle.fit_record.specs.declared.message.Values.{Values};
-ghost use Rattle.fit_record.specs.Environment.{defined_at};
-ghost use Rattle.fit_record.specs.Records.{IsRecord, dev_layout, layout};
-ghost use Rattle.fit_record.specs.Sound.{IsSound};
-ghost use Rattle.fit_profile.specs.Looks.{known};
+ghost use Rattle.fit_profile.specs.Opened.{IsOpened};
 ghost use Rattle.fit_profile.specs.Times as times;
-ghost use Rattle.fit_frames.specs.Frames.{HasItems};
 ghost use Rattle.fit_show.specs.ShowLines.{definition_line, header_line, joined, record_line, versions_text};
 ghost use Rattle.fit_texts.specs.Words as words;
 ghost use Rattle.fit_texts.specs.Current.{AreCurrent};
-ghost use Rattle.fit_texts.specs.MessageKeys.{message_key};
+ghost use Rattle.fit_texts.specs.MessageKeys.{key_of};
 
 use crate::fields::put_words;
-use crate::template::LineMaker;
+use crate::template::{LineMaker, LineTemplate};
 use fit_frame::Header;
 use fit_frames::ItemBytes;
 use fit_profile::{Stream, message_label};
-use fit_record::{Defined, MessageDef};
+use fit_record::{MessageBytes, MessageDef};
+use fit_texts::Findings;
 use fit_texts::words::{dev_slice, order_word, sum_word};
 use itoa::Buffer;
 use std::alloc::AllocError;
@@ -105,52 +100,24 @@ pub(crate) fn put_definition(text: &mut Vec<u8>, definition: &MessageDef) -> Res
     put_words(text, words.as_slice())
 }
 
-/// Puts the line of a data message of this definition after the records of a stream, by its time.
-fn put_values(
-    text: &mut Vec<u8>,
-    maker: &mut LineMaker,
-    stream: &Stream,
-    defined: &Defined,
-    local: u8,
-    time: Option<u32>,
-    items: &mut ItemBytes<'_>,
-) -> Result<(), AllocError>
-    requires place { defined_at (known stream.now) local ≡ Some defined.now }
-    requires sound { IsSound defined.now }
-    requires items { (all : List (Items Global))
-        × HasItems items.old (layout defined.now ++ dev_layout defined.now) all }
-    requires current { AreCurrent message_key maker.old.templates stream.now }
-    ensures line { OnOk result ((v : Values Global) → v.local ≡ local
-        → length v.fields ≡ length defined.now.definition.fields
-        → time ≡ times.time stream.now (Data v)
-        → HasItems items.old (layout defined.now ++ dev_layout defined.now) (v.fields ++ v.dev)
-        → text.new.items ≡ text.old.items ++ record_line stream.now (Data v)) }
-    ensures current { AreCurrent message_key maker.new.templates stream.now }
-{
-    maker.keep_template(stream, local, defined)?;
-    let Some(template) = maker.templates.get(local) else {
-        unreachable!()
-    };
-    template.put(text, &mut maker.sheet, &mut maker.times, time, items)
-}
-
-/// Puts the line of the data message with this time that the bytes are after the records of a stream.
+/// Puts the line of a data message that is opened after the records of a stream, by its time.
 pub(crate) fn put_message(
     text: &mut Vec<u8>,
     maker: &mut LineMaker,
+    found: &mut Findings<LineTemplate>,
     stream: &Stream,
-    bytes: &[u8],
+    message: &MessageBytes<'_>,
     time: Option<u32>,
 ) -> Result<(), AllocError>
-    requires record_ { (v : Values Global) × IsRecord (known stream.now) (Data v) bytes.now }
-    requires time { (v : Values Global) → IsRecord (known stream.now) (Data v) bytes.now
-        → time ≡ times.time stream.now (Data v) }
-    requires current { AreCurrent message_key maker.old.templates stream.now }
-    ensures line { OnOk result ((v : Values Global) → IsRecord (known stream.now) (Data v) bytes.now
-        → text.new.items ≡ text.old.items ++ record_line stream.now (Data v)) }
-    ensures current { AreCurrent message_key maker.new.templates stream.now }
+    requires opened { IsOpened stream.now message.now }
+    requires time { time ≡ times.time stream.now (Data (message_in message.now)) }
+    requires current { AreCurrent key_of found.old stream.now }
+    ensures line { OnOk result (text.new.items
+        ≡ text.old.items ++ record_line stream.now (Data (message_in message.now))) }
+    ensures current { AreCurrent key_of found.new stream.now }
 {
-    let Some(message) = stream.env().message_bytes(bytes) else {
+    found.find(&mut maker.alloc, stream, message.local, message.defined)?;
+    let Some(template) = found.get(message.local) else {
         unreachable!()
     };
     let mut items = ItemBytes {
@@ -158,14 +125,5 @@ pub(crate) fn put_message(
         order: message.defined.definition.order,
         rest: message.body,
     };
-    let local = message.local;
-    put_values(
-        text,
-        maker,
-        stream,
-        message.defined,
-        local,
-        time,
-        &mut items,
-    )
+    template.put(text, &mut maker.sheet, &mut maker.times, time, &mut items)
 }

@@ -2,19 +2,17 @@
 ghost use Rattle.std.specs.Prelude.{◌≡◌, ◌++◌};
 
 use crate::lines::{put_definition, put_header, put_message};
-use crate::template::LineMaker;
+use crate::template::{LineMaker, LineTemplate};
 use fit_frame::Header;
 use fit_profile::Stream;
-use fit_record::MessageDef;
-use fit_texts::{ByLocal, SHEET_SIZE, TextMaker, TextReport, Times};
+use fit_record::{MessageBytes, MessageDef};
+use fit_texts::{Findings, Moment, SHEET_SIZE, TextMaker, TextReport, Times};
 use std::alloc::{AllocError, Global};
 
 impl TextMaker for LineMaker {
     ghost use Rattle.fit_show.specs.ShowLines.{show_line};
-    ghost use Rattle.fit_texts.specs.Current.{AreCurrent};
-    ghost use Rattle.fit_texts.specs.MessageKeys.{message_key};
 
-    ghost is_current = { λ m before. AreCurrent message_key m.templates before };
+    type Found = LineTemplate;
 
     ghost line = { show_line };
 
@@ -23,12 +21,11 @@ impl TextMaker for LineMaker {
             alloc,
             sheet: [0; SHEET_SIZE],
             times: Times::new(alloc),
-            templates: ByLocal::new(alloc),
         }
     }
 
-    fn forget(&mut self) {
-        self.templates.forget();
+    fn tells_records_alone() -> bool {
+        false
     }
 
     fn put_header(
@@ -53,16 +50,15 @@ impl TextMaker for LineMaker {
         Ok(())
     }
 
-    fn take_message(
+    fn put_message(
         &mut self,
         text: &mut Vec<u8>,
-        stream: &mut Stream,
-        _files: u64,
-        bytes: &[u8],
+        found: &mut Findings<LineTemplate>,
+        stream: &Stream,
+        message: &MessageBytes<'_>,
+        moment: Moment,
     ) -> Result<(), AllocError> {
-        let time = stream.message_time(bytes);
-        put_message(text, self, stream, bytes, time)?;
-        stream.take_timed(bytes, time)
+        put_message(text, self, found, stream, message, moment.time)
     }
 }
 

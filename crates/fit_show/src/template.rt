@@ -1,10 +1,9 @@
 //! The lines of the messages of a definition without their values, found out once for many messages.
-ghost use Rattle.std.specs.Prelude.{◌≡◌, ◌<◌, ◌≤◌, ◌+◌, ◌++◌, IfOk, IsTrue, OnOk, Some, codes, length, map, slice_get};
+ghost use Rattle.std.specs.Prelude.{◌≡◌, ◌<◌, ◌≤◌, ◌+◌, ◌++◌, IfOk, OnOk, Some, codes, length, map};
 ghost use Rattle.fit_record.specs.Environment.{defined_at};
 ghost use Rattle.fit_record.specs.Sound.{IsSound};
 ghost use Rattle.fit_profile.specs.Looks.{known};
 ghost use Rattle.fit_show.specs.ShowLines as lines;
-ghost use Rattle.fit_texts.specs.Current.{AreCurrent};
 ghost use Rattle.fit_frames.specs.Frames.{HasFields, HasItems, TakesFields};
 ghost use Rattle.fit_show.specs.inner.Showing.{dev_field_part, field_part, first_head, keys_text, line_front, line_slots, line_text, shown_keys};
 ghost use Rattle.fit_texts.specs.MessageKeys.{message_key};
@@ -15,7 +14,7 @@ use crate::frames::{ShownField, push_devs, put_dev_head, put_head, shown_fields}
 use fit_frames::ItemBytes;
 use fit_profile::{Stream, message_label};
 use fit_record::{Defined, FieldDef};
-use fit_texts::{ByLocal, KeptDev, KeptMessage, Sheet, Stamp, Times, WIDE, note, put_sheet};
+use fit_texts::{Finding, KeptDev, KeptMessage, Sheet, Stamp, Times, WIDE, put_sheet};
 use itoa::Buffer;
 use std::alloc::{AllocError, Global};
 use std::marker::Model;
@@ -120,7 +119,7 @@ fn head_and_fields(
 
 /// The lines of the messages of a definition without their values.
 #[derive(Drop)]
-pub(crate) struct LineTemplate {
+pub struct LineTemplate {
     kept: KeptMessage,
     /// What a message without a time begins with.
     front: Stamp,
@@ -173,15 +172,6 @@ impl LineTemplate {
         })
     }
 
-    /// Whether it is that of the definition of this local message type after the records of a stream.
-    pub(crate) fn is_of(&self, stream: &Stream, local: u8, defined: &Defined) -> bool
-        requires place { defined_at (known stream.now) local ≡ Some defined.now }
-        requires sound { IsSound defined.now }
-        ensures { IsTrue result → self.now ≡ message_key stream.now local defined.now }
-    {
-        self.kept.is(stream, local, defined)
-    }
-
     /// Puts what a message with this time begins with. The sheet begins anew.
     #[inline(always)]
     fn put_label(
@@ -224,68 +214,35 @@ impl LineTemplate {
     }
 }
 
+impl Finding for LineTemplate {
+    ghost use Rattle.fit_texts.specs.MessageKeys.{key_of};
+
+    type Tools = Global;
+
+    ghost found_of = { key_of };
+
+    fn find(
+        found: &mut Option<LineTemplate>,
+        tools: &mut Global,
+        stream: &Stream,
+        local: u8,
+        defined: &Defined,
+    ) -> Result<(), AllocError> {
+        if let Some(template) = found {
+            if template.kept.is(stream, local, defined) {
+                return Ok(());
+            }
+        }
+        *found = Some(LineTemplate::new(*tools, stream, local, defined)?);
+        Ok(())
+    }
+}
+
 /// What lines are put with, one after another.
 #[derive(Drop)]
 pub struct LineMaker {
     pub(crate) alloc: Global,
     /// What lines are written in first.
     pub(crate) sheet: Sheet,
-    /// That of the last message of each local message type.
-    pub(crate) templates: ByLocal<LineTemplate>,
     pub(crate) times: Times,
-}
-
-impl LineMaker {
-    /// Whether the line of the definition of this local message type after the records of a stream is kept.
-    fn keeps(&self, stream: &Stream, local: u8, defined: &Defined) -> bool
-        requires place { defined_at (known stream.now) local ≡ Some defined.now }
-        requires sound { IsSound defined.now }
-        ensures { IsTrue result → slice_get self.now.templates.items.items local
-            ≡ Some (Some (message_key stream.now local defined.now)) }
-    {
-        if let Some(Some(template)) = self.templates.items.as_slice().get(local as usize) {
-            return template.is_of(stream, local, defined);
-        }
-        false
-    }
-
-    /// Keeps the line of the definition of this local message type after the records of a stream, where it isn't kept.
-    #[inline(never)]
-    fn renew(&mut self, stream: &Stream, local: u8, defined: &Defined) -> Result<(), AllocError>
-        requires place { defined_at (known stream.now) local ≡ Some defined.now }
-        requires sound { IsSound defined.now }
-        requires current { AreCurrent message_key self.old.templates stream.now }
-        ensures kept { OnOk result (slice_get self.new.templates.items.items local
-            ≡ Some (Some (message_key stream.now local defined.now))) }
-        ensures current { AreCurrent message_key self.new.templates stream.now }
-    {
-        if self.keeps(stream, local, defined) {
-            note(&mut self.templates.current, local, true);
-            return Ok(());
-        }
-        let template = LineTemplate::new(self.alloc, stream, local, defined)?;
-        self.templates.keep(local, template)
-    }
-
-    /// Keeps the line of the definition of this local message type after the records of a stream, where it isn't known that it is
-    /// kept.
-    #[inline(always)]
-    pub(crate) fn keep_template(
-        &mut self,
-        stream: &Stream,
-        local: u8,
-        defined: &Defined,
-    ) -> Result<(), AllocError>
-        requires place { defined_at (known stream.now) local ≡ Some defined.now }
-        requires sound { IsSound defined.now }
-        requires current { AreCurrent message_key self.old.templates stream.now }
-        ensures kept { OnOk result (slice_get self.new.templates.items.items local
-            ≡ Some (Some (message_key stream.now local defined.now))) }
-        ensures current { AreCurrent message_key self.new.templates stream.now }
-    {
-        if self.templates.is_current(local) {
-            return Ok(());
-        }
-        self.renew(stream, local, defined)
-    }
 }
