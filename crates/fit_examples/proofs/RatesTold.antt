@@ -2,7 +2,7 @@
 use Rattle.fit_examples.proofs.Common.{◌≡◌, ◌∙◌, ℕ, List, [], ◌∷◌, ◌++◌, true, false, Ok, Err, reverse, refl, sym, ap, ap₂, subst, append_assoc, append-nil, flat_map}
 use Rattle.fit_examples.proofs.Common.{Global, FitFile, Record, Event, file_end, file_events, header, item, hear, latest_records}
 use Rattle.fit_examples.proofs.Noted.{chain_moments, moments_on, records_on}
-use Rattle.std.specs.Prelude.{◌||◌, Bool, Result, if◌then◌else◌, codes}
+use Rattle.std.specs.Prelude.{◌||◌, Bool, Result, codes}
 use Rattle.std.specs.Io.KnownBytes.{Appends}
 use Rattle.fit_chain.specs.declared.event.Event.{Event as Answer}
 use Rattle.fit_chain.specs.declared.event.Event.TheVariants as answers

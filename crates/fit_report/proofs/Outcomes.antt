@@ -3,7 +3,7 @@ use Rattle.fit_report.proofs.Common.{◌≡◌, ℕ, ◌+◌, ◌≤◌, List, [
 use Rattle.fit_report.proofs.Common.{refl, sym, ap, ◌∙◌, subst, arith, length-append, Consumes, IsAtEnd, append-nil, get_or-append-add, take-append-add}
 use Rattle.fit_report.proofs.Common.{chain_limit, IsViable, Refused, Truncated, Fault, Seen, Event, AreEvents, at_header, IsRefused, no_file_yet}
 use Rattle.fit_report.proofs.Common.{ReportFault, Decode, NoMemory, Write, Lines, Stands, Stops, Channel, Tells, HasTold, HasHeard, report_fault}
-use Rattle.fit_report.proofs.Common.{OnOk, Appends, TellsMore, TextFailsIn, Consumes-append, drop, append_assoc, take-append-drop, length-drop}
+use Rattle.fit_report.proofs.Common.{Appends, TellsMore, TextFailsIn, Consumes-append, drop, append_assoc, take-append-drop, length-drop}
 use Rattle.std.proofs.Math.Seq.{take-append_seam}
 use Rattle.fit_chain.specs.Memory.{IsAny, MayLackMemoryIn}
 use Rattle.fit_report.specs.Reports.{TellsSome}
@@ -13,10 +13,6 @@ use Rattle.fit_decode.proofs.Nearly.{wants_in_piece}
 use Rattle.fit_report.proofs.Common.{Global, Consumes-nothing, ToldSoFar, nothing_viable}
 use Rattle.fit_report.proofs.Texts.{Appends-nothing}
 use Rattle.fit_report.specs.inner.Passing.{HasComeTo}
-
-pub on_ok : {P Q : Type 0} (result : Result (Unit {0}) ReportFault) → (P → Q) → OnOk result P → OnOk result Q
-on_ok (Ok x) f p = f p
-on_ok (Err fault) f p = tt
 
 -- ---- no bytes
 

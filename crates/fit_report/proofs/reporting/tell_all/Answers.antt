@@ -1,7 +1,7 @@
 -- A report begins with two short pieces.
 use Rattle.fit_report.proofs.Common.{◌<◌, arith, err_from_is_err_and}
-use Rattle.fit_report.specs.inner.Passing.{HasComeTo}
-use Rattle.fit_report.proofs.Outcomes.{after_first, comes_to_nothing, on_ok}
+use Rattle.std.proofs.lemmas.Result.{on_ok_weaker}
+use Rattle.fit_report.proofs.Outcomes.{after_first, comes_to_nothing}
 use Rattle.fit_report.proofs.reporting.tell_all.Goals as goal
 
 pub tell_taken-requires-clause-come : goal.tell_taken-requires-clause-come
@@ -96,7 +96,7 @@ returns-clause-ended g c =
     let start = g.K.Sink.contents c.args.sink.now in
     let some : 0 < c.in_ok-first.first = omega (arith, c.if-first-eq0.false) in
     let more : 0 < c.in_ok-second.second = omega (arith, c.if-second-eq0.false) in
-    on_ok c.tell_rest.result (λ ended. ended begin start (c.in_ok-second.ensures.tells.1 more begin start
+    on_ok_weaker c.tell_rest.result (λ ended. ended begin start (c.in_ok-second.ensures.tells.1 more begin start
     (after_first c.in_ok-first.first (c.in_ok-first.ensures.tells.1 some begin start
     (comes_to_nothing g.R.Report.has_heard g.R.Report.line c.args.reporter.now c.args.telling.now begin start c.requires.fresh c.requires.heard)))))
     c.tell_rest.ensures.ended
