@@ -1,6 +1,4 @@
 pub mod Common
-mod BareRows
-mod ExactRows
 pub mod FramedRows
 mod KeyRows
 pub mod KnownRows
