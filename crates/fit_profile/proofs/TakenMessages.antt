@@ -6,14 +6,15 @@ use Rattle.std.proofs.Common.{option_map}
 use Rattle.fit_record.specs.Records.{IsRecord}
 use Rattle.fit_record.specs.declared.learn.Description.{Description}
 use Rattle.fit_profile.specs.declared.plan.Plan.{Plan}
-use Rattle.fit_profile.specs.inner.Plans.{ArePlanned}
+use Rattle.fit_profile.specs.inner.Plans.{ArePlanned, IsPlanned}
 use Rattle.std.specs.Global.{Global}
-use Rattle.std.specs.Prelude.{◌⊎◌, ◌==◌, ◌&&◌}
+use Rattle.std.specs.Prelude.{◌⊎◌, ◌==◌, ◌&&◌, slice_index_or}
 use Rattle.fit_record.specs.MessageBytes.{message_in}
 use Rattle.fit_record.specs.declared.message.Record.TheVariants.{Values as Data}
 use Rattle.fit_record.specs.declared.message_bytes.MessageBytes.{MessageBytes}
 use Rattle.fit_record.specs.Faults.{or_else}
 use Rattle.fit_profile.specs.Accumulated.{is_counter}
+use Rattle.fit_profile.specs.Opened.{IsOpened}
 use Rattle.fit_profile.specs.Taken.{IsTaken}
 use Rattle.fit_profile.specs.Times.{field_time, header_time}
 use Rattle.fit_profile.specs.declared.message_bytes.Taken.{Taken}
@@ -38,16 +39,27 @@ said_of_it e last m s here is v p same known_ =
     let all : IsTaken (told_at last d v) v d s = subst (λ x. IsTaken (told_at last d x) x d s) same is in
     subst (λ (q : Defined Global). IsTaken (told_at last q.definition v) v q.definition s) one all
 
+-- what is told of a message by the last ones that are kept
+pub told_inside : {e : Environment Global} {l : Last} {n : Names Global} {xs : List (Record Global)} (now : List (Record Global)) (v : Values Global)
+    (p : Defined Global) → KeepsRecords e l n xs → xs ≡ now → defined_at (known now) v.local ≡ Some p → told_at l p.definition v ≡ told now v
+told_inside now v p k view known_ = ap (λ x. told_at x p.definition v) (k.last_is ∙ ap last_of view) ∙ told-placed now v p known_
+
 -- the same by the records of which the last ones are kept
 pub said_now : {e : Environment Global} {l : Last} {n : Names Global} {xs : List (Record Global)} (now : List (Record Global)) (v : Values Global)
     (p : Defined Global) (s : Taken) → KeepsRecords e l n xs → xs ≡ now → defined_at (known now) v.local ≡ Some p
     → IsTaken (told_at l p.definition v) v p.definition s → IsTaken (told now v) v p.definition s
-said_now now v p s k view known_ is =
-    subst (λ t. IsTaken t v p.definition s) (ap (λ x. told_at x p.definition v) (k.last_is ∙ ap last_of view) ∙ told-placed now v p known_) is
+said_now now v p s k view known_ is = subst (λ t. IsTaken t v p.definition s) (told_inside now v p k view known_) is
 
 pub defined_inside : {e : Environment Global} {l : Last} {n : Names Global} {xs : List (Record Global)} (now : List (Record Global)) (v : Values Global)
     (p : Defined Global) → KeepsRecords e l n xs → xs ≡ now → defined_at (known now) v.local ≡ Some p → defined_at e v.local ≡ Some p
 defined_inside now v p k view known_ = ap (λ x. defined_at x v.local) (k.env_is ∙ ap known view) ∙ known_
+
+-- the plan of an opened message is in its place
+pub planned_inside : {e : Environment Global} {l : Last} {n : Names Global} {xs : List (Record Global)} (plans : List (Option Plan))
+    (now : List (Record Global)) (m : MessageBytes Global) → KeepsRecords e l n xs → xs ≡ now → ArePlanned plans e.places → IsOpened now m
+    → IsPlanned (slice_index_or plans m.local None) (Some m.defined.now)
+planned_inside plans now m k view are opened =
+    subst (IsPlanned (slice_index_or plans m.local None)) (defined_inside now (message_in m) m.defined.now k view opened.defined) (are m.local)
 
 -- a message that was taken in moves no definition
 pub still_defined : {A : Type 0} (earlier : List (Record A)) (v : Values A)

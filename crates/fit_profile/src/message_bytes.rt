@@ -54,7 +54,11 @@ pub(crate) fn message_of<'a>(env: &'a Env, bytes: &'a [u8]) -> MessageBytes<'a>
 
 /// The time of a message by the last time before it.
 #[inline(always)]
-pub(crate) fn time_of_message(previous: Option<u32>, plan: &Plan, message: &MessageBytes<'_>) -> Option<u32>
+pub(crate) fn time_of_message(
+    previous: Option<u32>,
+    plan: &Plan,
+    message: &MessageBytes<'_>,
+) -> Option<u32>
     requires plan { IsPlan plan.now message.now.defined.now.definition }
     requires size { length message.now.body.now ≡ message_size message.now.defined.now }
     ensures { result ≡ or_else (times.field_time message.now.defined.now.definition

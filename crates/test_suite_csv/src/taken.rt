@@ -27,7 +27,8 @@ fn is_message(env: &Env, bytes: &[u8]) -> bool
 /// Takes in the data message that the bytes are, and asserts its time.
 pub(crate) fn take(rt: &impl Abort, stream: &mut Stream, bytes: &[u8], time: Option<u32>) {
     if is_message(stream.env(), bytes) {
-        equal(rt, &stream.message_time(bytes), &time);
+        let message = stream.open(bytes);
+        equal(rt, &stream.message_time(&message), &time);
         stream.take_message(bytes).expect(rt, "memory");
         return;
     }
@@ -83,7 +84,8 @@ fn take_amounts(
     distance: Option<i128>,
 ) {
     if is_message(stream.env(), bytes) {
-        let found = stream.message_amounts(bytes);
+        let message = stream.open(bytes);
+        let found = stream.message_amounts(&message);
         equal(
             rt,
             &found.0,

@@ -1,5 +1,5 @@
 //! What a stream tells of the next record, before it is taken in.
-ghost use Rattle.std.specs.Prelude.{◌≡◌, ◌==◌, ◌&&◌, ◌≤◌, IfSome, Some, option_map, option_and_then, slice_get};
+ghost use Rattle.std.specs.Prelude.{◌≡◌, ◌==◌, ◌&&◌, IfSome, Some, option_map, option_and_then, slice_get};
 ghost use Rattle.std.specs.List.{list_any};
 ghost use Rattle.fit_record.specs.Environment.{defined_at};
 ghost use Rattle.fit_record.specs.Records.{Fits};
@@ -8,7 +8,6 @@ ghost use Rattle.fit_profile.specs.Described.{namings_at};
 ghost use Rattle.fit_profile.specs.Looks.{known};
 ghost use Rattle.fit_profile.specs.Times as times;
 ghost use Rattle.fit_profile.specs.Told.{told_of};
-ghost use Rattle.fit_profile.specs.Told as telling;
 
 use super::Stream;
 use crate::by_plan::{tell, time_of};
