@@ -133,7 +133,7 @@ fn short_number_at_the_end(rt: HostRuntime) {
     let bytes = text.as_bytes();
     let mut reader = MessageReader::new(alloc);
     let left = after_record(&rt, alloc, &mut reader, &mut stream, &message, bytes);
-    assert!(rt; left == b"end,,,,,,\n");
+    assert!(rt; left == b"end,,,,,,\n".as_slice());
     let (rows, _) = bytes.split_at(bytes.len() - left.len());
     no_message(&rt, &mut reader, &mut stream, rows);
 }
