@@ -46,4 +46,4 @@ unfoldable pub use Rattle.fit_texts.specs.InstantText.{date_after, date_in_year}
 pub use Rattle.fit_texts.specs.MessageKeys.{DevKey, dev_key, dev_keys}
 pub use Rattle.fit_texts.specs.Minutes.{IsMinute, seconds_text}
 pub use Rattle.fit_texts.specs.Sheets.{and_sheet}
-pub use Rattle.fit_texts.specs.Current.{AreCurrent, IsCurrent, Renews}
+pub use Rattle.fit_texts.specs.Current.{AreCurrent, IsCurrent}

@@ -1,10 +1,16 @@
--- What is kept for local message types and known to be that of their definitions.
-use Rattle.fit_texts.proofs.Common.{◌≡◌, ◌∙◌, sym, ap, subst, true, inl, inr, false, refl, zero, suc, [], ◌∷◌, set, slice_get}
-use Rattle.fit_texts.proofs.Common.{Defined, Record, Global, defined_at, known, AreCurrent, IsCurrent, Renews}
-use Rattle.std.proofs.Common.{ℕ, List, Some}
-use Rattle.std.proofs.lemmas.Bool.{cases_eq}
+-- What was found out of definitions and is known to be that of those that count.
+use Rattle.fit_texts.proofs.Common.{◌≡◌, ◌∙◌, sym, ap, subst, Bool, true, inl, inr, false, refl, zero, suc, [], ◌∷◌, set, slice_get}
+use Rattle.fit_texts.proofs.Common.{Defined, Record, Global, Naming, Data, Values, defined_at, known, namings_at, AreCurrent, IsCurrent}
+use Rattle.std.proofs.Common.{ℕ, List, Some, None, Option, ◌==◌, eq-eqb, get_or}
+use Rattle.std.proofs.lemmas.Bool.{cases_Bool, cases_eq, eqb-true}
 use Rattle.std.proofs.lemmas.Option.{same_Some}
-use Rattle.fit_texts.specs.declared.kept.ByLocal.{ByLocal}
+use Rattle.std.proofs.lemmas.List.{get_or-set_other}
+use Rattle.fit_record.specs.Environment.{Environment, defined_by, describe}
+use Rattle.fit_record.specs.declared.definition.MessageDef.{MessageDef}
+use Rattle.fit_record.specs.declared.learn.Description.{Description}
+use Rattle.fit_record.specs.declared.message.Record.TheVariants.{Define}
+use Rattle.fit_texts.specs.Current.{KeepsOthers, NoneAreCurrent}
+use Rattle.fit_texts.specs.declared.found.Findings.{Findings}
 
 -- what is set at one place stands there alone
 pub elsewhere : {A : Type 0} (xs : List A) (i k : ℕ) (x : A) → (k ≡ i → ⊥) → slice_get (set xs i x) k ≡ slice_get xs k
@@ -21,33 +27,55 @@ there [] (suc i) x y is = absurd cc
 there (z ∷ xs) zero x y is = same_Some x y is
 there (z ∷ xs) (suc i) x y is = there xs i x y is
 
--- nothing is known any more for a local message type
-pub unknown : {T : Type 0} (old new : ByLocal T) (local : ℕ) (item : T) → new.current ≡ set old.current local false
-    → ((other : ℕ) (t : T) → (other ≡ local → ⊥) → slice_get old.items.items other ≡ Some (Some t) → slice_get new.items.items other ≡ Some (Some t))
-    → Renews old new local item
-unknown old new local item flags others = (
-  λ flag. let both : false ≡ true = there old.current local false true (sym (ap (λ fs. slice_get fs local) flags) ∙ flag) in absurd cc,
-  λ other t differs was flag.
-      others other t differs (was (sym (elsewhere old.current local other false differs) ∙ sym (ap (λ fs. slice_get fs other) flags) ∙ flag)),
-)
+-- where a flag was taken away at a place, it doesn't stand there
+pub unset : (old new : List Bool) (i : ℕ) → new ≡ set old i false → slice_get new i ≡ Some true → ⊥
+unset old new i is flag = let both : false ≡ true = there old i false true (ap (λ fs. slice_get fs i) (sym is) ∙ flag) in cc
 
--- what is kept is found to be that of the definition of its local message type
-pub noted : {T : Type 0} (old new : ByLocal T) (local : ℕ) (item : T) → new.items.items ≡ old.items.items → new.current ≡ set old.current local true
-    → slice_get old.items.items local ≡ Some (Some item) → Renews old new local item
-noted old new local item items flags here = (
-  λ _. ap (λ kept. slice_get kept local) items ∙ here,
-  λ other t differs was flag.
-      ap (λ kept. slice_get kept other) items
-      ∙ was (sym (elsewhere old.current local other true differs) ∙ sym (ap (λ fs. slice_get fs other) flags) ∙ flag),
-)
+-- a flag elsewhere was there before
+pub flag_before : (old new : List Bool) (i k : ℕ) (to : Bool) → new ≡ set old i to → (k ≡ i → ⊥) → slice_get new k ≡ Some true
+    → slice_get old k ≡ Some true
+flag_before old new i k to is differs flag = sym (elsewhere old i k to differs) ∙ ap (λ fs. slice_get fs k) (sym is) ∙ flag
 
--- that of one local message type is known, and what was known of the others still is
-pub renewed : {T : Type 0} (item_of : List (Record Global) → ℕ → Defined Global → T) (old new : ByLocal T) (before : List (Record Global)) (local : ℕ)
-    (p : Defined Global) → defined_at (known before) local ≡ Some p → AreCurrent item_of old before → Renews old new local (item_of before local p)
-    → AreCurrent item_of new before
-renewed item_of old new before local p is are renews = λ l q other. elim (cases_eq l local) [
+abbrev FoundOf : Type 0 → Type 0
+FoundOf T = ℕ → Defined Global → List Naming → T
+
+-- nothing is known, so nothing is wrong
+pub none_current : {T : Type 0} (found_of : FoundOf T) (found : Findings T) (before : List (Record Global)) → NoneAreCurrent found → AreCurrent found_of found before
+none_current found_of found before none = λ local p is flag. absurd (none local flag)
+
+-- that of one local message type is found anew, or no longer known, and that of the others stays
+pub moved : {T : Type 0} (found_of : FoundOf T) (old new : Findings T) (before : List (Record Global)) (local : ℕ) → AreCurrent found_of old before
+    → ((k : ℕ) → (k ≡ local → ⊥) → slice_get new.current k ≡ Some true → slice_get old.current k ≡ Some true)
+    → ((k : ℕ) (t : T) → (k ≡ local → ⊥) → slice_get old.items.items k ≡ Some (Some t) → slice_get new.items.items k ≡ Some (Some t))
+    → ((p : Defined Global) → defined_at (known before) local ≡ Some p → IsCurrent new local (found_of local p (namings_at before local)))
+    → AreCurrent found_of new before
+moved found_of old new before local are flags items here = λ k q is. elim (cases_eq k local) [
   | inl same ↦
-      subst (λ k. IsCurrent new k (item_of before k q)) (sym same)
-      (subst (λ r. IsCurrent new local (item_of before local r)) (same_Some p q (sym is ∙ ap (defined_at (known before)) (sym same) ∙ other)) renews.0)
-  | inr differs ↦ renews.1 l (item_of before l q) differs (are l q other)
+      subst (λ l. IsCurrent new l (found_of l q (namings_at before l))) (sym same) (here q (ap (defined_at (known before)) (sym same) ∙ is))
+  | inr differs ↦ λ flag. items k (found_of k q (namings_at before k)) differs (are k q is (flags k differs flag))
+]
+
+same-places : {A : Type 0} (e : Environment A) (s : Option Description) → (describe e s).places ≡ e.places
+same-places e None = refl
+same-places e (Some s) = refl
+
+-- a data message changes no definition and no name
+pub after_message : {T : Type 0} (found_of : FoundOf T) (found : Findings T) (before : List (Record Global)) (v : Values Global) → AreCurrent found_of found before
+    → AreCurrent found_of found (Data v ∷ before)
+after_message found_of found before v are = λ k p is. are k p (ap (λ places. get_or places k None) (sym (same-places (known before) _)) ∙ is)
+
+-- a definition takes the place of its local message type, of which nothing is known any more
+pub after_definition : {T : Type 0} (found_of : FoundOf T) (old new : Findings T) (before : List (Record Global)) (d : MessageDef Global)
+    → AreCurrent found_of old before → new.items.items ≡ old.items.items → new.current ≡ set old.current d.local false
+    → AreCurrent found_of new (Define d ∷ before)
+after_definition {T} found_of old new before d are items flags = λ k p is. elim (cases_Bool (d.local == k)) [
+  | inl test ↦
+      λ flag. absurd (unset old.current new.current d.local flags (ap (slice_get new.current) (eqb-true d.local k test) ∙ flag))
+  | inr test ↦
+      let differs : k ≡ d.local → ⊥ = λ e. cc (sym test ∙ eq-eqb d.local k (sym e)) in
+      let was : defined_at (known before) k ≡ Some p =
+      sym (get_or-set_other (known before).places d.local k (Some (defined_by (known before) d)) None differs) ∙ is in
+      let names : namings_at before k ≡ namings_at (Define d ∷ before) k = rw test refl in
+      λ flag. ap (λ xs. slice_get xs k) items ∙ are k p was (flag_before old.current new.current d.local k false flags differs flag)
+      ∙ ap (λ ns. Some (Some (found_of k p ns))) names
 ]

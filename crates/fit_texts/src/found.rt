@@ -1,5 +1,5 @@
 //! What is found out of the definitions of a file, once for many messages.
-ghost use Rattle.std.specs.Prelude.{◌≡◌, ◌<◌, ◌↔◌, ℕ, List, IsTrue, OnOk, Some, length, option_and_then, option_map, set, slice_get, true};
+ghost use Rattle.std.specs.Prelude.{◌≡◌, ◌≤◌, ◌↔◌, ℕ, List, IsTrue, OnOk, Some, length, option_and_then, option_map, set, slice_get, false, true};
 ghost use Rattle.std.specs.Global.{Global};
 ghost use Rattle.fit_record.specs.Environment.{defined_at};
 ghost use Rattle.fit_record.specs.Sound.{IsSound};
@@ -37,7 +37,7 @@ pub trait Finding: Drop {
 
 /// What was found out of the definitions of a file, each at the place of its local message type.
 #[derive(Drop)]
-pub struct Findings<T: Finding> {
+pub struct Findings<T: Drop> {
     pub items: Vec<Option<T>>,
     /// Whether what was found is known to be that of the definition that counts now, for each local message type.
     pub current: [bool; 16],
@@ -105,8 +105,8 @@ impl<T: Finding> Findings<T> {
             ≡ Some (Some (T.found_of local defined.now (namings_at stream.now local)))) }
         ensures current { AreCurrent T.found_of self.new stream.now }
     {
-        note(&mut self.current, local, false);
-        make_place(&mut self.items, local as usize)?;
+        self.forget_one(local);
+        make_places(&mut self.items, local as usize + 1)?;
         T::find(
             &mut self.items[local as usize],
             tools,
@@ -153,12 +153,12 @@ fn note(current: &mut [bool; 16], local: u8, is_current: bool)
     }
 }
 
-/// Makes a list so long that it has this place.
-fn make_place<T: Drop>(items: &mut Vec<Option<T>>, place: usize) -> Result<(), AllocError>
-    ensures here { OnOk result (place < length items.new.items) }
+/// Makes a list so long that it has that many places.
+fn make_places<T: Drop>(items: &mut Vec<Option<T>>, count: usize) -> Result<(), AllocError>
+    ensures here { OnOk result (count ≤ length items.new.items) }
     ensures others { KeepsOthers items.old.items items.new.items }
 {
-    for _ in items.len()..place + 1 {
+    for _ in items.len()..count {
         items.push(None)?;
     }
     Ok(())

@@ -1,5 +1,5 @@
 //! A reporter of texts that depend on few of the events before them.
-ghost use Rattle.std.specs.Prelude.{◌≡◌, ◌≢◌, ◌<◌, ◌^◌, ◌++◌, ◌∷◌, [], List, IsSomeAnd, IsTrue, OnOk};
+ghost use Rattle.std.specs.Prelude.{◌≡◌, ◌≢◌, ◌<◌, ◌^◌, ◌++◌, ◌∷◌, [], ℕ, List, IsSomeAnd, IsTrue, OnOk};
 ghost use Rattle.std.specs.Global.{Global};
 ghost use Rattle.fit_chain.specs.Events.{Event as Told, file_end, header as begins, item};
 ghost use Rattle.fit_record.specs.Environment.{defined_at};

@@ -1,5 +1,5 @@
 //! What is kept of the events that a report has heard, and the texts of the next ones.
-ghost use Rattle.std.specs.Prelude.{◌≡◌, ◌<◌, ◌^◌, ◌++◌, ◌∷◌, [], List, OnOk};
+ghost use Rattle.std.specs.Prelude.{◌≡◌, ◌<◌, ◌^◌, ◌++◌, ◌∷◌, [], ℕ, List, IsTrue, OnOk, false};
 ghost use Rattle.std.specs.Global.{Global};
 ghost use Rattle.fit_chain.specs.Events.{Event as Told, file_end, header as begins, item};
 ghost use Rattle.fit_record.specs.declared.message.Record.TheVariants.{Define, Values as Data};
@@ -89,6 +89,47 @@ impl<M: TextMaker> Teller<M> {
         self.stream.take(record_)
     }
 
+    /// Takes in the data message that the bytes are, where it is seen by its first byte that it has no text. Says whether it is; else it is
+    /// left.
+    #[inline(always)]
+    fn pass_message(&mut self, bytes: &[u8]) -> bool
+        requires { (v : Values Global) × IsRecord (known self.old.records) (Data v) bytes.now }
+        ensures heard { IsTrue result → (v : Values Global)
+            → IsRecord (known self.old.records) (Data v) bytes.now → self.new
+            ≡ record self.old { records = Data v ∷ self.old.records } }
+        ensures text { IsTrue result → (heard : List (Told Global)) (v : Values Global)
+            → self.old ≡ kept_events heard → IsRecord (known self.old.records) (Data v) bytes.now
+            → M.line heard (item (Data v)) ≡ [] }
+        ensures kept { result ≡ false → self.new ≡ self.old }
+    {
+        if !M::tells_records_alone() {
+            return false;
+        }
+        self.stream.pass_message(bytes)
+    }
+
+    /// Takes in the data message that the bytes are, and puts its text, for which it is opened.
+    #[inline(always)]
+    fn take_opened(&mut self, text: &mut Vec<u8>, bytes: &[u8]) -> Result<(), AllocError>
+        requires { (v : Values Global) × IsRecord (known self.old.records) (Data v) bytes.now }
+        ensures heard { OnOk result ((v : Values Global)
+            → IsRecord (known self.old.records) (Data v) bytes.now → self.new
+            ≡ record self.old { records = Data v ∷ self.old.records }) }
+        ensures text { OnOk result ((heard : List (Told Global)) (v : Values Global)
+            → self.old ≡ kept_events heard → IsRecord (known self.old.records) (Data v) bytes.now
+            → text.new.items ≡ text.old.items ++ M.line heard (item (Data v))) }
+    {
+        let message = self.stream.open(bytes);
+        let time = self.stream.message_time(&message);
+        let file = self.files;
+        let moment = Moment { file, time };
+        let found = &mut self.found;
+        self.maker
+            .put_message(text, found, &self.stream, &message, moment)?;
+        self.stream.take_timed(bytes, time)?;
+        Ok(())
+    }
+
     /// Takes in the data message that the bytes are, and puts its text.
     pub(crate) fn take_message(
         &mut self,
@@ -103,18 +144,10 @@ impl<M: TextMaker> Teller<M> {
             → self.old ≡ kept_events heard → IsRecord (known self.old.records) (Data v) bytes.now
             → text.new.items ≡ text.old.items ++ M.line heard (item (Data v))) }
     {
-        if M::tells_records_alone() && self.stream.pass_message(bytes) {
+        if self.pass_message(bytes) {
             return Ok(());
         }
-        let message = self.stream.open(bytes);
-        let time = self.stream.message_time(&message);
-        let moment = Moment {
-            file: self.files,
-            time,
-        };
-        self.maker
-            .put_message(text, &mut self.found, &self.stream, &message, moment)?;
-        self.stream.take_timed(bytes, time)
+        self.take_opened(text, bytes)
     }
 
     /// Takes in the end of a file, and puts its text.

@@ -1,7 +1,7 @@
 use Rattle.std.proofs.Common.{arith, rules, sym, true}
 use Rattle.std.proofs.lemmas.Bool.{ltb-false}
 use Rattle.std.proofs.lemmas.Option.{slice_get_within}
-use Rattle.fit_texts.proofs.kept.ByLocal.is_current.Goals as goal
+use Rattle.fit_texts.proofs.found.Findings.is_current.Goals as goal
 
 pub returns-in-None : goal.returns-in-None
 returns-in-None g c = (

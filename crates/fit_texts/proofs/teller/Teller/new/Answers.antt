@@ -1,5 +1,5 @@
 use Rattle.std.proofs.Common.{rules}
-use Rattle.fit_texts.proofs.report.TextReport.new.Goals as goal
+use Rattle.fit_texts.proofs.teller.Teller.new.Goals as goal
 
 pub returns : goal.returns
 returns g c = search rules

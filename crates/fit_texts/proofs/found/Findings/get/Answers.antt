@@ -1,7 +1,7 @@
 use Rattle.fit_texts.proofs.Common.{◌∙◌, Bor, length, refl, sym, ap, ltb-false, ltb-true, option_and_then, slice_get}
 use Rattle.std.proofs.Common.{Option, option_map}
 use Rattle.std.proofs.lemmas.Option.{slice_get_read, slice_get_past}
-use Rattle.fit_texts.proofs.kept.ByLocal.get.Goals as goal
+use Rattle.fit_texts.proofs.found.Findings.get.Goals as goal
 
 pub returns : goal.returns
 returns g c =

@@ -1,10 +1,10 @@
 use Rattle.std.proofs.Common.{rules}
 use Rattle.fit_texts.proofs.Common.{◌^◌, sym, ap, arith, subst, KeptEvents}
 use Rattle.std.proofs.Common.{◌<◌}
-use Rattle.fit_texts.proofs.report.TextReport.take_header.Goals as goal
+use Rattle.fit_texts.proofs.teller.Teller.take_header.Goals as goal
 
-pub put_header-put-requires : goal.put_header-put-requires
-put_header-put-requires g c = subst (λ files. files < 2 ^ 60) (sym (ap (λ (k : KeptEvents). k.files) c.self.view_is)) c.requires
+pub put_header-requires : goal.put_header-requires
+put_header-requires g c = subst (λ files. files < 2 ^ 60) (sym (ap (λ (k : KeptEvents). k.files) c.self.view_is)) c.requires
 
 pub overflow_add-self : goal.overflow_add-self
 overflow_add-self g c = omega (arith, ap (λ (k : KeptEvents). k.files) c.self.view_is, c.requires)
