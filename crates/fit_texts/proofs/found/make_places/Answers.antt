@@ -23,3 +23,6 @@ loop-preserved g c =
 pub returns-in_err-push-clause-others : goal.returns-in_err-push-clause-others
 returns-in_err-push-clause-others g c = λ other t is.
     ap (λ items. slice_get items other) c.in_err-push.ensures.items ∙ c.loop.invariant.1 other t is
+
+pub returns-clause-here : goal.returns-clause-here
+returns-clause-here g c = omega (arith, c.loop.invariant.0, c.loop-test.false, c.len-counter.ensures)
