@@ -2,7 +2,8 @@
 use Rattle.fit_rows.proofs.Common.{◌≡◌, ◌∙◌, ◌+◌, ◌++◌, [], length, map, take, zip, refl, sym, ap, subst, arith, length-map, Global, Items, Record}
 use Rattle.fit_rows.proofs.Common.{data_rows, dev_layout, layout, header_time, previous_time, frame_keys, frame_slots, key_rows, message_key, value_row}
 use Rattle.fit_rows.proofs.Common.{HasFields, HasItems, MessageKey}
-use Rattle.std.proofs.Common.{ℕ, List, Option, length-zip}
+use Rattle.std.proofs.Common.{ℕ, List, Option}
+use Rattle.std.proofs.lemmas.Slice.Zip.{length-zip}
 use Rattle.std.proofs.lemmas.List.{append-nil}
 use Rattle.fit_frames.proofs.FieldWalks.{field_slot}
 use Rattle.fit_frames.specs.declared.items.ItemBytes.{ItemBytes}
@@ -45,17 +46,16 @@ opened_items before m s opened ordered is =
     let both : layout p ++ dev_layout p ≡ frame_slots (opened_key before m) ++ [] =
     sym (opened_slots before m opened) ∙ sym (append-nil (frame_slots (opened_key before m))) in
     let long : length s.rest.now ≡ sizes (layout p ++ dev_layout p) = ap length is ∙ opened.size in
-    let read : all_items m ≡ fields_from s.order (layout p ++ dev_layout p) s.rest.now =
+    let read : all_items m ≡ fields_from {A = Global} s.order (layout p ++ dev_layout p) s.rest.now =
     sym (fields_both p.definition.order (layout p) (dev_layout p) m.body.now)
     ∙ (λ i. fields_from (sym ordered i) (layout p ++ dev_layout p) (sym is i)) in
     subst (λ fs. HasItems s fs (all_items m)) both (long, read)
 
 -- its rows, by what is kept of its definition
-pub opened_rows : (before : List (Record Global)) (m : MessageBytes Global) → IsOpened before m
-    → key_rows (opened_key before m) m.offset (header_time (previous_time before) m.offset) (all_items m) ≡ data_rows before (message_in m)
-opened_rows before m opened =
-    message_rows_are before m.defined.now m.local m.offset (header_time (previous_time before) m.offset) (message_in m) opened.defined refl refl
-    (fields_counted m) refl
+pub opened_rows : (before : List (Record Global)) (m : MessageBytes Global) (time : Option ℕ) → IsOpened before m
+    → time ≡ header_time (previous_time before) m.offset → key_rows (opened_key before m) m.offset time (all_items m) ≡ data_rows before (message_in m)
+opened_rows before m time opened timed =
+    message_rows_are before m.defined.now m.local m.offset time (message_in m) opened.defined refl refl (fields_counted m) timed
 
 rows_counted : (k : MessageKey) (offset time : Option ℕ) (all : List (Items Global)) → length all ≡ length (frame_slots k)
     → length (key_rows k offset time all) ≡ 1 + length (frame_keys k)
@@ -77,4 +77,5 @@ opened_counted before m opened =
     let items : length (all_items m) ≡ length (frame_slots (opened_key before m)) =
     ap length (sym (fields_both p.definition.order (layout p) (dev_layout p) m.body.now)) ∙ fields_long Global p.definition.order fields m.body.now
     ∙ ap length (sym (opened_slots before m opened)) in
-    ap length (sym (opened_rows before m opened)) ∙ rows_counted (opened_key before m) m.offset (header_time (previous_time before) m.offset) (all_items m) items
+    let time = header_time (previous_time before) m.offset in
+    ap length (sym (opened_rows before m time opened refl)) ∙ rows_counted (opened_key before m) m.offset time (all_items m) items

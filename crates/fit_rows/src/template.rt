@@ -259,7 +259,7 @@ impl Template {
     pub(crate) fn row_count(&self) -> u64
         ensures { result ≡ 1 + length (frame_keys self.now) }
     {
-        1 + self.frames.len() as u64
+        1 + self.frames.as_slice().len() as u64
     }
 
     /// Puts the row with which a message begins with a time offset or the time of its header. The sheet begins anew.
