@@ -1,7 +1,7 @@
 -- The rows of a data message that is opened in its bytes.
-use Rattle.fit_rows.proofs.Common.{◌≡◌, ◌∙◌, ◌+◌, ◌++◌, [], length, map, take, zip, refl, sym, ap, subst, arith, length-map, Global, Items, Record}
+use Rattle.fit_rows.proofs.Common.{◌≡◌, ◌∙◌, ◌+◌, ◌++◌, [], length, take, zip, refl, sym, ap, subst, arith, length-map, Global, Items, Record}
 use Rattle.fit_rows.proofs.Common.{data_rows, dev_layout, layout, header_time, previous_time, frame_keys, frame_slots, key_rows, message_key, value_row}
-use Rattle.fit_rows.proofs.Common.{HasFields, HasItems, MessageKey}
+use Rattle.fit_rows.proofs.Common.{HasItems, MessageKey}
 use Rattle.std.proofs.Common.{ℕ, List, Option}
 use Rattle.std.proofs.lemmas.Slice.Zip.{length-zip}
 use Rattle.std.proofs.lemmas.List.{append-nil}

@@ -204,15 +204,16 @@ impl MessageReader {
             → p.0 ≡ length (data_rows before.old v))) }
         ensures unchanged { before.new ≡ before.old }
     {
-        self.bytes.clear();
+        let bytes = &mut self.bytes;
+        bytes.clear();
         let tools = &mut self.maker.tools;
         let templates = &mut before.templates;
         let stream = &before.stream;
         let written = &mut self.written;
-        if likely_message(tools, templates, written, &mut self.bytes, stream, text).is_none() {
+        if likely_message(tools, templates, written, bytes, stream, text).is_none() {
             return Ok(None);
         }
-        after_message(tools, templates, written, stream, self.bytes.as_slice(), text)
+        after_message(tools, templates, written, stream, bytes.as_slice(), text)
     }
 
     /// The bytes of the data message that was read last.

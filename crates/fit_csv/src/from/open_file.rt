@@ -159,7 +159,8 @@ impl OpenFile {
         ensures err { IfErr result (λ misfit. misfit ≡ Misfit.NoMemory) }
     {
         self.part = Part::Nothing;
-        self.records.push_message(self.before.stream().env(), bytes)?;
+        self.records
+            .push_message(self.before.stream().env(), bytes)?;
         self.before.take_message(bytes)?;
         Ok(())
     }

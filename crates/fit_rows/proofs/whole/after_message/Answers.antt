@@ -1,5 +1,5 @@
-use Rattle.fit_rows.proofs.Common.{◌≡◌, ◌∙◌, ◌+◌, ◌++◌, [], length, take, sym, ap, subst, arith, Data, csv_text, data_rows, defined_at, known, Fits}
-use Rattle.std.proofs.Common.{List, ℕ, Some}
+use Rattle.fit_rows.proofs.Common.{◌≡◌, ◌∙◌, ◌+◌, [], length, take, sym, ap, subst, arith, Data, data_rows, defined_at, Fits}
+use Rattle.std.proofs.Common.{Some}
 use Rattle.std.proofs.lemmas.List.{append-nil, take_all}
 use Rattle.std.proofs.lemmas.Result.{IfOk-weaker}
 use Rattle.std.proofs.lemmas.Option.{IfSome_then}

@@ -10,12 +10,12 @@ use Rattle.fit_csv.proofs.from.guess.take_message.Goals as goal
 pub add_message-requires-clause-message : goal.add_message-requires-clause-message
 add_message-requires-clause-message c =
     let read : (v : Values Global) × IsRecord (known c.args.file.now.before) (Data v) c.whole_message.new.self
-    × (c.args.text.now ≡ csv_text (data_rows c.args.file.now.before v) ++ c.in-Some.left.now) = rw c.in-Some.is at c.in_ok-whole_message.ensures.read in
-    (
+    × (c.args.text.now ≡ csv_text (data_rows c.args.file.now.before v) ++ c.in-Some.left.now) = rw c.in-Some.is at c.in_ok-whole_message.ensures.read in (
       read.0,
       subst (λ (before : List (Record Global)). IsRecord (known before) (Data read.0) c.bytes.result.now) (sym c.whole_message.ensures.unchanged)
           (subst (λ b. IsRecord (known c.args.file.now.before) (Data read.0) b) (sym c.bytes.ensures) read.1),
     )
+
 pub returns-clause-rows : goal.returns-clause-rows
 returns-clause-rows c =
     let f = c.args.file.now in
