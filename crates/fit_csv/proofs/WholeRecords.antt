@@ -48,18 +48,6 @@ message-long before v fits =
       length-map (zip (zip devs p.dev_codes) (zip namings v.dev)) (λ x. dev_row {A = Global} x.0.0 x.0.1 x.1.0 x.1.1),
     )
 
--- a data message has as many rows as its definition
-pub message-as-long : (before : List (Record Global)) (v : Values Global) (p : Defined Global) → defined_at (known before) v.local ≡ Some p
-    → Fits (known before) (Data v) → 1 + length p.definition.fields + length (dev_defs p.definition.dev) ≡ length (record_rows before (Data v))
-message-as-long before v p is fits =
-    let of : DataFits v p = subst (λ o. IsSomeAnd o (DataFits v)) is fits in
-    omega (
-      arith,
-      message-long before v fits,
-      as_long (layout p) v.fields of.fields ∙ layout-long p,
-      as_long (dev_layout p) v.dev of.dev_fields ∙ dev-layout-long p (codes-long before v.local p is),
-    )
-
 some-rows : (before : List (Record Global)) (r : Record Global) → Fits (known before) r → 0 < length (record_rows before r)
 some-rows before (Define d) fits = omega (arith, definition-long before d)
 some-rows before (Data v) fits = omega (arith, message-long before v fits)

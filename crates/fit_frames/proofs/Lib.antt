@@ -1,5 +1,4 @@
 pub mod Common
-pub mod BareItems
 pub mod FieldWalks
 pub mod FloatCells
 pub mod OctetCells

@@ -1,5 +1,4 @@
 pub mod Frames
 pub mod Shown
 pub mod CellKeys
-pub mod Bare
 pub mod inner

@@ -8,7 +8,6 @@ ghost use Rattle.fit_cells.specs.Cells.{cell};
 ghost use Rattle.fit_frames.specs.Frames.{field_in_row, two_cells};
 ghost use Rattle.fit_texts.specs.Sheets.{and_sheet};
 
-pub(crate) mod exact;
 pub(crate) mod likely;
 
 use crate::form::{FieldForm, FieldKind};

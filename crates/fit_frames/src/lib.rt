@@ -7,7 +7,6 @@ mod items;
 mod pen;
 mod shown;
 
-pub use frames::exact::exact_items;
 pub use frames::{Frame, put_tail, put_two};
 pub use items::ItemBytes;
 pub use pen::Pen;

@@ -47,4 +47,3 @@ pub use Rattle.fit_rows.specs.inner.FrameKeys.{frame_keys, frame_slots, key_rows
 pub use Rattle.fit_frames.specs.Frames.{FrameText, two_cells, HasFields, HasItems, TakesFields}
 pub use Rattle.fit_texts.specs.MessageKeys.{DevKey, MessageKey, dev_keys, message_key}
 pub use Rattle.fit_texts.specs.Sheets.{and_sheet}
-pub use Rattle.fit_texts.specs.Current.{Renews}

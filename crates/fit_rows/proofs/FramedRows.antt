@@ -3,7 +3,7 @@ use Rattle.fit_rows.proofs.Common.{◌≡◌, ◌∙◌, ◌++◌, ◌∷◌, []
 use Rattle.fit_rows.proofs.Common.{take_more, default_writer, escaped, field_text, fields_text, is_blank, needs_quotes, Items, FieldDef, cell, csv_text}
 use Rattle.fit_rows.proofs.Common.{high-decimal, unquoted, optional_number, row, FrameKey, end_of, field_key, frame_text, frames_of, head_text, tail_text}
 use Rattle.fit_rows.proofs.Common.{false, two_cells, value_row}
-use Rattle.std.proofs.Common.{◌<◌, ℕ, List, codes, decimal, Option, Some, None, Vec}
+use Rattle.std.proofs.Common.{◌<◌, ℕ, suc, List, codes, decimal, Option, Some, None, Vec}
 use Rattle.std.proofs.lemmas.List.{append-nil}
 use Rattle.fit_cells.specs.Rows.{Cell}
 
@@ -51,6 +51,11 @@ pub frames_shape : (before : List ℕ) (keys : List FrameKey)
     → map {B = ℕ × ℕ} (λ f. (f.code, f.size)) (frames_of before keys) ≡ map (λ f. (f.code, f.size)) keys
 frames_shape before [] = refl
 frames_shape before (k ∷ keys) = ap (λ xs. (k.code, k.size) ∷ xs) (frames_shape (tail_text k) keys)
+
+-- one for each key
+pub frames_counted : (before : List ℕ) (keys : List FrameKey) → length (frames_of before keys) ≡ length keys
+frames_counted before [] = refl
+frames_counted before (k ∷ keys) = ap suc (frames_counted (tail_text k) keys)
 
 grouped : (t b h v w : List ℕ) → ((t ++ (b ++ h)) ++ v) ++ w ≡ (t ++ b) ++ (h ++ (v ++ w))
 grouped t b h v w = simp append_assoc refl

@@ -1,8 +1,7 @@
 pub mod Common
-mod BareRows
-mod ExactRows
 pub mod FramedRows
 mod KeyRows
+mod OpenedRows
 pub mod KnownRows
 pub mod RowsOfEvents
 pub mod ToldRows

@@ -1,5 +1,4 @@
 pub mod ChainRows
 pub mod EventTexts
 pub mod Laws
-pub mod Quotes
 pub mod inner

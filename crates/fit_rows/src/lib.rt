@@ -8,8 +8,10 @@ mod likely;
 mod maker;
 mod message;
 mod report;
+mod stream;
 mod template;
 mod whole;
 
 pub use report::{CsvReport, ROWS_LINE};
+pub use stream::RowStream;
 pub use whole::MessageReader;

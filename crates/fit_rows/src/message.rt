@@ -1,84 +1,63 @@
 //! The rows of data messages.
-ghost use Rattle.std.specs.Prelude.{◌≡◌, ◌++◌, List, OnOk, Some, length};
-ghost use Rattle.std.specs.Global.{Global};
-ghost use Rattle.fit_base.specs.declared.items.Items.{Items};
-ghost use Rattle.fit_record.specs.declared.message.Values.{Values};
-ghost use Rattle.fit_record.specs.Environment.{defined_at};
-ghost use Rattle.fit_record.specs.declared.message.Record.TheVariants.{Values as Data};
-ghost use Rattle.fit_record.specs.Records.{IsRecord, dev_layout, layout};
-ghost use Rattle.fit_record.specs.Sound.{IsSound};
-ghost use Rattle.fit_profile.specs.Looks.{known};
+ghost use Rattle.std.specs.Prelude.{◌≡◌, OnOk};
+ghost use Rattle.fit_record.specs.MessageBytes.{message_in};
+ghost use Rattle.fit_profile.specs.Opened.{IsOpened};
 ghost use Rattle.fit_cells.specs.Rows.{HasRows};
 ghost use Rattle.fit_rows.specs.ChainRows as rows;
 ghost use Rattle.fit_texts.specs.Current.{AreCurrent};
-ghost use Rattle.fit_frames.specs.Frames.{HasItems};
-ghost use Rattle.fit_texts.specs.MessageKeys.{message_key};
+ghost use Rattle.fit_texts.specs.MessageKeys.{key_of, message_key};
 
-use crate::maker::RowMaker;
+use crate::maker::RowTools;
+use crate::template::Template;
 use fit_frames::ItemBytes;
 use fit_profile::Stream;
-use fit_record::Defined;
+use fit_record::MessageBytes;
+use fit_texts::Findings;
 use fit_texts::words::header_time;
 use std::alloc::AllocError;
 
-/// Puts the rows of a data message of this definition after the records of a stream.
-fn put_values(
+/// Puts the rows of a data message that is opened after the records of a stream, by the template of its definition.
+pub(crate) fn put_values(
     text: &mut Vec<u8>,
-    maker: &mut RowMaker,
+    tools: &mut RowTools,
+    template: &Template,
     stream: &Stream,
-    defined: &Defined,
-    local: u8,
-    offset: Option<u8>,
-    items: &mut ItemBytes<'_>,
+    message: &MessageBytes<'_>,
 ) -> Result<(), AllocError>
-    requires place { defined_at (known stream.now) local ≡ Some defined.now }
-    requires sound { IsSound defined.now }
-    requires current { AreCurrent message_key maker.old.templates stream.now }
-    requires items { (all : List (Items Global))
-        × HasItems items.old (layout defined.now ++ dev_layout defined.now) all }
-    ensures rows { OnOk result ((v : Values Global) → v.local ≡ local → v.offset ≡ offset
-        → length v.fields ≡ length defined.now.definition.fields
-        → HasItems items.old (layout defined.now ++ dev_layout defined.now) (v.fields ++ v.dev)
-        → HasRows (rows.data_rows stream.now v) text.old text.new) }
-    ensures current { AreCurrent message_key maker.new.templates stream.now }
+    requires opened { IsOpened stream.now message.now }
+    requires template { template.now
+        ≡ message_key stream.now message.now.local message.now.defined.now }
+    ensures { OnOk result
+        (HasRows (rows.data_rows stream.now (message_in message.now)) text.old text.new) }
 {
-    maker.keep_template(stream, local, defined)?;
-    let Some(template) = maker.templates.get(local) else {
-        unreachable!()
-    };
-    let time = header_time(stream, offset);
-    template.put(text, &mut maker.tools, offset, time, items)
-}
-
-/// Puts the rows of the data message that the bytes are after the records of a stream.
-pub(crate) fn put_message(
-    text: &mut Vec<u8>,
-    maker: &mut RowMaker,
-    stream: &Stream,
-    bytes: &[u8],
-) -> Result<(), AllocError>
-    requires record_ { (v : Values Global) × IsRecord (known stream.now) (Data v) bytes.now }
-    requires current { AreCurrent message_key maker.old.templates stream.now }
-    ensures rows { OnOk result ((v : Values Global) → IsRecord (known stream.now) (Data v) bytes.now
-        → HasRows (rows.data_rows stream.now v) text.old text.new) }
-    ensures current { AreCurrent message_key maker.new.templates stream.now }
-{
-    let Some(message) = stream.env().message_bytes(bytes) else {
-        unreachable!()
-    };
     let mut items = ItemBytes {
-        alloc: maker.tools.pen.alloc,
+        alloc: tools.pen.alloc,
         order: message.defined.definition.order,
         rest: message.body,
     };
+    let offset = message.offset;
+    let time = header_time(stream, offset);
+    template.put(text, tools, offset, time, &mut items)
+}
+
+/// Puts the rows of a data message that is opened after the records of a stream.
+pub(crate) fn put_message(
+    text: &mut Vec<u8>,
+    tools: &mut RowTools,
+    found: &mut Findings<Template>,
+    stream: &Stream,
+    message: &MessageBytes<'_>,
+) -> Result<(), AllocError>
+    requires opened { IsOpened stream.now message.now }
+    requires current { AreCurrent key_of found.old stream.now }
+    ensures rows { OnOk result
+        (HasRows (rows.data_rows stream.now (message_in message.now)) text.old text.new) }
+    ensures current { AreCurrent key_of found.new stream.now }
+{
     let local = message.local;
-    put_values(
-        text,
-        maker,
-        stream,
-        message.defined,
-        local,
-        message.offset,
-        &mut items,
-    )
+    found.find(&mut tools.pen, stream, local, message.defined)?;
+    let Some(template) = found.get(local) else {
+        unreachable!()
+    };
+    put_values(text, tools, template, stream, message)
 }

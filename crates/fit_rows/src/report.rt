@@ -1,14 +1,14 @@
 //! The rows of events, told one after another.
 ghost use Rattle.std.specs.Prelude.{◌≡◌, ◌++◌};
 
-use crate::definition::again::DefinitionRows;
 use crate::file::{put_end_row, put_file_row};
-use crate::maker::{RowMaker, RowTools};
+use crate::maker::RowMaker;
 use crate::message::put_message;
+use crate::template::Template;
 use fit_frame::Header;
 use fit_profile::Stream;
-use fit_record::MessageDef;
-use fit_texts::{ByLocal, TextMaker, TextReport};
+use fit_record::{MessageBytes, MessageDef};
+use fit_texts::{Findings, Moment, TextMaker, TextReport};
 use std::alloc::{AllocError, Global};
 
 /// The first line of all rows.
@@ -16,23 +16,17 @@ pub const ROWS_LINE: &[u8] = b"row,a,b,c,d,e,f\n";
 
 impl TextMaker for RowMaker {
     ghost use Rattle.fit_rows.specs.EventTexts.{csv_line};
-    ghost use Rattle.fit_texts.specs.Current.{AreCurrent};
-    ghost use Rattle.fit_texts.specs.MessageKeys.{message_key};
 
-    ghost is_current = { λ m before. AreCurrent message_key m.templates before };
+    type Found = Template;
 
     ghost line = { csv_line };
 
     fn new(alloc: Global) -> Self {
-        RowMaker {
-            tools: RowTools::new(alloc),
-            definitions: DefinitionRows::new(alloc),
-            templates: ByLocal::new(alloc),
-        }
+        RowMaker::new(alloc)
     }
 
-    fn forget(&mut self) {
-        self.templates.forget();
+    fn tells_records_alone() -> bool {
+        false
     }
 
     fn put_header(
@@ -58,18 +52,15 @@ impl TextMaker for RowMaker {
         put_end_row(text)
     }
 
-    fn take_message(
+    fn put_message(
         &mut self,
         text: &mut Vec<u8>,
-        stream: &mut Stream,
-        _files: u64,
-        bytes: &[u8],
+        found: &mut Findings<Template>,
+        stream: &Stream,
+        message: &MessageBytes<'_>,
+        _moment: Moment,
     ) -> Result<(), AllocError> {
-        put_message(text, self, stream, bytes)?;
-        if stream.pass_message(bytes) {
-            return Ok(());
-        }
-        stream.take_message(bytes)
+        put_message(text, &mut self.tools, found, stream, message)
     }
 }
 

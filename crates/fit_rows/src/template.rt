@@ -1,5 +1,5 @@
 //! The rows of the messages of a definition without their values, found out once for many messages.
-ghost use Rattle.std.specs.Prelude.{◌≡◌, ◌≤◌, ◌+◌, ◌++◌, ◌∷◌, [], IfOk, IsTrue, OnOk, Some, codes, decimal, map, option_map, take, unwrap_or};
+ghost use Rattle.std.specs.Prelude.{◌≡◌, ◌≤◌, ◌+◌, ◌++◌, ◌∷◌, [], IfOk, IsTrue, OnOk, Some, codes, decimal, length, map, option_map, take, unwrap_or};
 ghost use Rattle.fit_record.specs.Environment.{defined_at};
 ghost use Rattle.fit_record.specs.Sound.{IsSound};
 ghost use Rattle.fit_profile.specs.Looks.{known};
@@ -9,11 +9,11 @@ ghost use Rattle.fit_texts.specs.Words as words;
 ghost use Rattle.fit_rows.specs.ChainRows as rows;
 ghost use Rattle.fit_texts.specs.InstantText.{instant_text};
 ghost use Rattle.fit_frames.specs.Frames.{HasFields, HasItems, TakesFields};
-ghost use Rattle.fit_rows.specs.inner.FrameKeys.{dev_frame_key, end_of, field_key, frame_slots, frame_text, frames_of, key_rows, tail_text, values_text};
+ghost use Rattle.fit_rows.specs.inner.FrameKeys.{dev_frame_key, end_of, field_key, frame_keys, frame_slots, frame_text, frames_of, key_rows, tail_text, values_text};
 ghost use Rattle.fit_texts.specs.MessageKeys.{message_key};
 ghost use Rattle.fit_texts.specs.Sheets.{and_sheet};
 
-mod exact;
+mod finding;
 mod first_row;
 pub(crate) mod likely;
 
@@ -181,7 +181,7 @@ fn frames_and_end(
 
 /// The rows of the messages of a definition without their values.
 #[derive(Drop)]
-pub(crate) struct Template {
+pub struct Template {
     kept: KeptMessage,
     /// The first row of a message without a time offset.
     line: Stamp,
@@ -252,6 +252,14 @@ impl Template {
         ensures { IsTrue result → self.now ≡ message_key stream.now local defined.now }
     {
         self.kept.is(stream, local, defined)
+    }
+
+    /// How many rows each message has.
+    #[inline(always)]
+    pub(crate) fn row_count(&self) -> u64
+        ensures { result ≡ 1 + length (frame_keys self.now) }
+    {
+        1 + self.frames.as_slice().len() as u64
     }
 
     /// Puts the row with which a message begins with a time offset or the time of its header. The sheet begins anew.

@@ -1,28 +1,27 @@
-//! Records whose rows stand as `to_csv` writes them, taken whole: what a text shows is guessed, and read exactly where the guess is
-//! wrong, and the rows of what was found are compared with it.
-ghost use Rattle.std.specs.Prelude.{◌≡◌, ◌++◌, [], ℕ, List, IfOk, IfSome, IsSome};
+//! Records whose rows stand as `to_csv` writes them, taken whole: what a text shows is guessed, and the rows of the guess are compared
+//! with it.
+ghost use Rattle.std.specs.Prelude.{◌≡◌, ◌++◌, [], IfOk, IfSome, length};
 ghost use Rattle.std.specs.Global.{Global};
+ghost use Rattle.fit_record.specs.MessageBytes.{message_in};
 ghost use Rattle.fit_record.specs.declared.message.Record.TheVariants.{Values as Data};
 ghost use Rattle.fit_record.specs.declared.message.Values.{Values as Message};
 ghost use Rattle.fit_record.specs.Records.{DefinitionFits, Fits, IsRecord};
 ghost use Rattle.fit_profile.specs.Looks.{known};
+ghost use Rattle.fit_profile.specs.Opened.{IsOpened};
 ghost use Rattle.fit_cells.specs.Rows.{csv_text};
 ghost use Rattle.fit_rows.specs.ChainRows.{data_rows, definition_rows, record_rows};
-ghost use Rattle.fit_rows.specs.Quotes.{HasNoQuotes};
 ghost use Rattle.fit_texts.specs.Current.{AreCurrent};
-ghost use Rattle.fit_texts.specs.MessageKeys.{message_key};
-
-mod exact;
+ghost use Rattle.fit_texts.specs.MessageKeys.{key_of};
 
 use crate::likely::likely_definition;
-use crate::maker::RowMaker;
-use crate::message::put_message;
+use crate::maker::{RowMaker, RowTools};
+use crate::message::put_values;
+use crate::stream::RowStream;
+use crate::template::Template;
 use crate::template::likely::likely_short_number;
-use crate::whole::exact::exact_message;
-use fit_encode::spell;
 use fit_profile::Stream;
-use fit_record::{MessageDef, Record};
-use fit_texts::{TextMaker, after_beginning};
+use fit_record::{MessageBytes, MessageDef, Record};
+use fit_texts::{Findings, after_beginning};
 use std::alloc::{AllocError, Global};
 use std::marker::Model;
 
@@ -55,41 +54,74 @@ fn after_definition<'a>(
 /// Puts the bytes of the data message whose rows a text may show after others, and returns what may come after its last value. Nothing is
 /// claimed of them.
 fn likely_message<'a>(
-    maker: &mut RowMaker,
+    tools: &mut RowTools,
+    templates: &mut Findings<Template>,
     written: &mut Vec<u8>,
     bytes: &mut Vec<u8>,
     before: &Stream,
     text: &'a [u8],
 ) -> Option<&'a [u8]>
-    requires { AreCurrent message_key maker.old.templates before.now }
-    ensures { AreCurrent message_key maker.new.templates before.now }
+    requires { AreCurrent key_of templates.old before.now }
+    ensures { AreCurrent key_of templates.new before.now }
 {
     let local = likely_short_number(text.strip_prefix(b"data,")?)?;
     let defined = before.env().defined(local)?;
-    maker.keep_template(before, local, defined).ok()?;
-    let template = maker.templates.get(local)?;
+    let pen = &mut tools.pen;
+    templates.find(pen, before, local, defined).ok()?;
+    let template = templates.get(local)?;
     let order = defined.definition.order;
-    let pen = &mut maker.tools.pen;
     template.likely(pen.alloc, written, &mut pen.value, order, bytes, text)
 }
 
-/// What is left of a text after the rows of the data message that the bytes are after the records of a stream, where they are one and
-/// the text begins with its rows as `to_csv` writes them.
+/// How many rows the opened data message has, and what is left of a text after them, where the text begins with its rows as `to_csv`
+/// writes them after the records of a stream.
+fn after_opened<'a>(
+    tools: &mut RowTools,
+    templates: &mut Findings<Template>,
+    written: &mut Vec<u8>,
+    before: &Stream,
+    message: &MessageBytes<'_>,
+    text: &'a [u8],
+) -> Result<Option<(u64, &'a [u8])>, AllocError>
+    requires opened { IsOpened before.now message.now }
+    requires current { AreCurrent key_of templates.old before.now }
+    ensures current { AreCurrent key_of templates.new before.now }
+    ensures text { IfOk result (λ found. IfSome found (λ p. text.now
+        ≡ csv_text (data_rows before.now (message_in message.now)) ++ p.1.now)) }
+    ensures rows { IfOk result (λ found. IfSome found (λ p.
+        p.0 ≡ length (data_rows before.now (message_in message.now)))) }
+{
+    let local = message.local;
+    templates.find(&mut tools.pen, before, local, message.defined)?;
+    let Some(template) = templates.get(local) else {
+        unreachable!()
+    };
+    written.clear();
+    put_values(written, tools, template, before, message)?;
+    match after_beginning(text, written.as_slice()) {
+        Some(left) => Ok(Some((template.row_count(), left))),
+        None => Ok(None),
+    }
+}
+
+/// How many rows the data message has that the bytes are after the records of a stream, and what is left of a text after them, where the
+/// bytes are one and the text begins with its rows as `to_csv` writes them.
 fn after_message<'a>(
-    maker: &mut RowMaker,
+    tools: &mut RowTools,
+    templates: &mut Findings<Template>,
     written: &mut Vec<u8>,
     before: &Stream,
     bytes: &[u8],
     text: &'a [u8],
-) -> Result<Option<&'a [u8]>, AllocError>
-    requires { AreCurrent message_key maker.old.templates before.now }
-    ensures current { AreCurrent message_key maker.new.templates before.now }
-    ensures read { IfOk result (λ found. IfSome found (λ left. (v : Message Global)
+) -> Result<Option<(u64, &'a [u8])>, AllocError>
+    requires { AreCurrent key_of templates.old before.now }
+    ensures current { AreCurrent key_of templates.new before.now }
+    ensures read { IfOk result (λ found. IfSome found (λ p. (v : Message Global)
         × IsRecord (known before.now) (Data v) bytes.now
-        × (text.now ≡ csv_text (data_rows before.now v) ++ left.now))) }
-    ensures found { IfOk result (λ found. (v : Message Global) (left : List ℕ)
+        × (text.now ≡ csv_text (data_rows before.now v) ++ p.1.now))) }
+    ensures rows { IfOk result (λ found. IfSome found (λ p. (v : Message Global)
         → IsRecord (known before.now) (Data v) bytes.now
-        → text.now ≡ csv_text (data_rows before.now v) ++ left → IsSome found) }
+        → p.0 ≡ length (data_rows before.now v))) }
 {
     let Some(message) = before.env().message_bytes(bytes) else {
         return Ok(None);
@@ -98,39 +130,7 @@ fn after_message<'a>(
     if size != bytes.len() {
         return Ok(None);
     }
-    written.clear();
-    put_message(written, maker, before, bytes)?;
-    Ok(after_beginning(text, written.as_slice()))
-}
-
-/// Makes `bytes` those of the data message with whose rows a text begins, and returns what is left of the text. It is found where the
-/// rows have no quotation mark.
-#[cold]
-#[inline(never)]
-fn exact_bytes<'a>(
-    maker: &mut RowMaker,
-    written: &mut Vec<u8>,
-    bytes: &mut Vec<u8>,
-    before: &Stream,
-    text: &'a [u8],
-) -> Result<Option<&'a [u8]>, AllocError>
-    requires { AreCurrent message_key maker.old.templates before.now }
-    ensures read { IfOk result (λ found. IfSome found (λ left. (v : Message Global)
-        × IsRecord (known before.now) (Data v) bytes.new.items
-        × (text.now ≡ csv_text (data_rows before.now v) ++ left.now))) }
-    ensures whole { IfOk result (λ found. (v : Message Global) (left : List ℕ)
-        → Fits (known before.now) (Data v) → text.now ≡ csv_text (data_rows before.now v) ++ left
-        → HasNoQuotes (csv_text (data_rows before.now v)) → IsSome found) }
-{
-    let Some(values) = exact_message(maker, written, before, text)? else {
-        return Ok(None);
-    };
-    let record_ = Record::Values(values);
-    if before.env().fits(&record_).is_err() {
-        return Ok(None);
-    }
-    spell(bytes, before.env(), &record_)?;
-    after_message(maker, written, before, bytes.as_slice(), text)
+    after_opened(tools, templates, written, before, &message, text)
 }
 
 /// Reads records from the rows that `to_csv` writes of them. What it keeps from one record to the next only saves time. Clauses see the
@@ -189,33 +189,31 @@ impl MessageReader {
         }
     }
 
-    /// What is left of a text after the rows of a data message after the records of a stream with which it begins, as `to_csv` writes
-    /// them: `bytes` has the message then. It is found wherever its rows have no quotation mark; with one there may be a message where
-    /// `None` is returned. Memory that is refused is an error.
+    /// How many rows the data message after the records of a stream has with whose rows a text begins, as `to_csv` writes them, and what is
+    /// left of the text: `bytes` has the message then. There may be one where `None` is returned. Memory that is refused is an error.
     pub fn whole_message<'a>(
         &mut self,
-        before: &Stream,
+        before: &mut RowStream,
         text: &'a [u8],
-    ) -> Result<Option<&'a [u8]>, AllocError>
-        ensures read { IfOk result (λ found. IfSome found (λ left. (v : Message Global)
-            × IsRecord (known before.now) (Data v) self.new
-            × (text.now ≡ csv_text (data_rows before.now v) ++ left.now))) }
-        ensures whole { IfOk result (λ found. (v : Message Global) (left : List ℕ)
-            → Fits (known before.now) (Data v)
-            → text.now ≡ csv_text (data_rows before.now v) ++ left
-            → HasNoQuotes (csv_text (data_rows before.now v)) → IsSome found) }
+    ) -> Result<Option<(u64, &'a [u8])>, AllocError>
+        ensures read { IfOk result (λ found. IfSome found (λ p. (v : Message Global)
+            × IsRecord (known before.old) (Data v) self.new
+            × (text.now ≡ csv_text (data_rows before.old v) ++ p.1.now))) }
+        ensures rows { IfOk result (λ found. IfSome found (λ p. (v : Message Global)
+            → IsRecord (known before.old) (Data v) self.new
+            → p.0 ≡ length (data_rows before.old v))) }
+        ensures unchanged { before.new ≡ before.old }
     {
-        self.maker.templates.forget();
-        self.bytes.clear();
-        let maker = &mut self.maker;
+        let bytes = &mut self.bytes;
+        bytes.clear();
+        let tools = &mut self.maker.tools;
+        let templates = &mut before.templates;
+        let stream = &before.stream;
         let written = &mut self.written;
-        if likely_message(maker, written, &mut self.bytes, before, text).is_none() {
-            return exact_bytes(maker, written, &mut self.bytes, before, text);
+        if likely_message(tools, templates, written, bytes, stream, text).is_none() {
+            return Ok(None);
         }
-        match after_message(maker, written, before, self.bytes.as_slice(), text)? {
-            Some(left) => Ok(Some(left)),
-            None => exact_bytes(maker, written, &mut self.bytes, before, text),
-        }
+        after_message(tools, templates, written, stream, bytes.as_slice(), text)
     }
 
     /// The bytes of the data message that was read last.

@@ -1,12 +1,11 @@
 //! Records that are read whole from their rows.
 use crate::asserts::holds_at;
-use crate::streams::{data, push_definition, pushed};
-use fit_base::Order;
+use crate::streams::data;
 use fit_base::base_type::UINT8;
+use fit_base::{Entries, Order};
 use fit_decode::read_one;
-use fit_profile::Stream;
 use fit_record::{FieldDef, MessageDef, Record, Values};
-use fit_rows::MessageReader;
+use fit_rows::{MessageReader, RowStream};
 use std::alloc::Global;
 use std::process::Abort;
 use test_known::fields::{kinds, two_fields};
@@ -25,19 +24,21 @@ fn after_message<'a>(
     rt: &impl Abort,
     alloc: Global,
     reader: &mut MessageReader,
-    before: &Stream,
+    before: &mut RowStream,
     values: &Values,
     text: &'a [u8],
 ) -> &'a [u8] {
-    let left = reader.whole_message(before, text).expect(rt, "memory");
-    let left = left.expect(rt, "a message");
-    match before.env().message_bytes(reader.bytes()) {
+    let read = reader.whole_message(before, text).expect(rt, "memory");
+    let (count, left) = read.expect(rt, "a message");
+    match before.stream().env().message_bytes(reader.bytes()) {
         Some(message) => {
             let found = message.values(alloc).expect(rt, "memory");
             assert!(rt; found == *values);
         }
         None => assert!(rt; false),
     }
+    let fields = values.fields.len() as u64;
+    assert!(rt; count == 1 + fields + values.dev.len() as u64);
     left
 }
 
@@ -45,11 +46,11 @@ fn after_message<'a>(
 fn after_definition<'a>(
     rt: &impl Abort,
     reader: &mut MessageReader,
-    before: &Stream,
+    before: &RowStream,
     definition: &MessageDef,
     text: &'a [u8],
 ) -> &'a [u8] {
-    match reader.whole_definition(before, text) {
+    match reader.whole_definition(before.stream(), text) {
         Ok(Some((found, left))) => {
             assert!(rt; found == *definition);
             left
@@ -66,7 +67,7 @@ fn after_record<'a>(
     rt: &impl Abort,
     alloc: Global,
     reader: &mut MessageReader,
-    before: &Stream,
+    before: &mut RowStream,
     record_: &Record,
     text: &'a [u8],
 ) -> &'a [u8] {
@@ -77,9 +78,17 @@ fn after_record<'a>(
 }
 
 /// Asserts that no data message is found in a text.
-fn no_message(rt: &impl Abort, reader: &mut MessageReader, before: &Stream, text: &[u8]) {
+fn no_message(rt: &impl Abort, reader: &mut MessageReader, before: &mut RowStream, text: &[u8]) {
     let found = reader.whole_message(before, text);
     assert!(rt; matches!(found, Ok(None)));
+}
+
+/// Takes a record that fits.
+fn take(rt: &impl Abort, stream: &mut RowStream, record_: &Record) {
+    match stream.stream().env().fits(record_) {
+        Ok(_) => stream.take(record_).expect(rt, "memory"),
+        Err(_) => assert!(rt; false),
+    }
 }
 
 /// Asserts that the records of the first file are read one by one from its text.
@@ -87,14 +96,14 @@ fn read_whole(rt: &impl Abort, alloc: Global, known: &Known) {
     let mut source = known.bytes;
     let file = read_one(alloc, &mut source).expect(rt, "a file");
     let mut reader = MessageReader::new(alloc);
-    let mut stream = Stream::new(alloc);
+    let mut stream = RowStream::new(alloc);
     let mut text = after_header(known.text);
     for record_ in file.records.as_slice() {
-        let left = after_record(rt, alloc, &mut reader, &stream, record_, text);
+        let left = after_record(rt, alloc, &mut reader, &mut stream, record_, text);
         if let Record::Define(_) = record_ {
-            no_message(rt, &mut reader, &stream, text);
+            no_message(rt, &mut reader, &mut stream, text);
         }
-        pushed(rt, &mut stream, record_);
+        take(rt, &mut stream, record_);
         text = left;
     }
     holds_at(rt, text.starts_with(b"end,,,,,,\n"), &known.name);
@@ -110,34 +119,30 @@ fn each_record_of_known_texts(rt: HostRuntime) {
     }
 }
 
-/// A guess looks at eight bytes for a number. Where the text ends before that, the message is found all the same.
+/// A guess looks at eight bytes for a number. Where the text ends before that, no message is found; where it goes on, it is.
 #[test]
 fn short_number_at_the_end(rt: HostRuntime) {
     let alloc = rt.alloc();
     let fields = [FieldDef::one(DEVELOPER_DATA_INDEX, UINT8)];
-    let mut stream = Stream::new(alloc);
-    let order = Order::Little;
-    push_definition(
-        &rt,
-        alloc,
-        &mut stream,
-        0,
-        order,
-        FIELD_DESCRIPTION,
-        &fields,
-    );
+    let mut stream = RowStream::new(alloc);
+    let fields = Entries::from_slice(alloc, &fields).expect(&rt, "memory");
+    let definition = MessageDef::new(0, Order::Little, FIELD_DESCRIPTION, fields);
+    take(&rt, &mut stream, &Record::Define(definition));
     let message = data(&rt, alloc, 0, None, &[(1, &[5])]);
-    let text = "data,0,,field_description,,,\nfield,developer_data_index,5,,,,\n";
+    let text = "data,0,,field_description,,,\nfield,developer_data_index,5,,,,\nend,,,,,,\n";
+    let bytes = text.as_bytes();
     let mut reader = MessageReader::new(alloc);
-    let left = after_record(&rt, alloc, &mut reader, &stream, &message, text.as_bytes());
-    assert!(rt; left.is_empty());
+    let left = after_record(&rt, alloc, &mut reader, &mut stream, &message, bytes);
+    assert!(rt; left == b"end,,,,,,\n".as_slice());
+    let (rows, _) = bytes.split_at(bytes.len() - left.len());
+    no_message(&rt, &mut reader, &mut stream, rows);
 }
 
 /// A text that begins with no rows of a record has none.
 #[test]
 fn no_record(rt: HostRuntime) {
     let mut reader = MessageReader::new(rt.alloc());
-    let stream = Stream::new(rt.alloc());
+    let mut stream = RowStream::new(rt.alloc());
     for text in [
         "",
         "data",
@@ -146,8 +151,8 @@ fn no_record(rt: HostRuntime) {
         "def,000000",
         "def,0,0",
     ] {
-        let found = reader.whole_definition(&stream, text.as_bytes());
+        let found = reader.whole_definition(stream.stream(), text.as_bytes());
         assert!(rt; matches!(found, Ok(None)));
-        no_message(&rt, &mut reader, &stream, text.as_bytes());
+        no_message(&rt, &mut reader, &mut stream, text.as_bytes());
     }
 }

@@ -5,7 +5,7 @@ ghost use Rattle.fit_csv.specs.inner.Progress.{file_begun};
 use crate::from::open_file::{OpenFile, Part};
 use fit_encode::SpelledRecords;
 use fit_frame::Header;
-use fit_profile::Stream;
+use fit_rows::RowStream;
 use std::alloc::Global;
 use std::marker::Model;
 
@@ -37,7 +37,7 @@ impl CurrentFile {
             file: OpenFile {
                 header: Header::new(0, 0),
                 records: SpelledRecords::new(alloc),
-                before: Stream::new(alloc),
+                before: RowStream::new(alloc),
                 part: Part::Nothing,
             },
         }

@@ -1,13 +1,7 @@
 //! Takes records whose rows stand as `to_csv` writes them straight from a text. What takes a record returns how many rows it has and
 //! what is left of the text. It may return none where a text begins with a record, and then nothing changes.
 ghost use Rattle.std.specs.Prelude.{◌≡◌, ◌+◌, IfOk, IfSome, IsNone, length, reverse};
-ghost use Rattle.std.specs.Global.{Global};
-ghost use Rattle.fit_record.specs.declared.message.Record.TheVariants.{Values as Data};
-ghost use Rattle.fit_record.specs.declared.message.Values.{Values};
 ghost use Rattle.fit_record.specs.Environment.{dev_defs};
-ghost use Rattle.fit_record.specs.Records.{IsRecord};
-ghost use Rattle.fit_profile.specs.Looks.{known};
-ghost use Rattle.fit_rows.specs.ChainRows.{record_rows};
 ghost use Rattle.fit_csv.specs.inner.Judging.{FileTakesRows, TakesRows};
 ghost use Rattle.fit_csv.specs.inner.SoundChain.{IsSoundChain};
 
@@ -15,28 +9,15 @@ use crate::from::chain::Chain;
 use crate::from::misfit::Misfit;
 use crate::from::open_file::{OpenFile, Part};
 use crate::from::ranges::is_in_range;
-use fit_profile::Stream;
 use fit_record::{MessageDef, Record};
 use fit_rows::MessageReader;
 use fit_texts::words::dev_slice;
 
-/// How many rows a definition has, and each of its data messages.
+/// How many rows a definition has.
 fn definition_rows(d: &MessageDef) -> u64
     ensures { result ≡ 1 + length d.now.fields + length (dev_defs d.now.dev) }
 {
     1 + d.fields.as_slice().len() as u64 + dev_slice(&d.dev).len() as u64
-}
-
-/// How many rows the data message has that the bytes are after the records of a stream.
-fn message_rows(before: &Stream, bytes: &[u8]) -> u64
-    requires { (v : Values Global) × IsRecord (known before.now) (Data v) bytes.now }
-    ensures { (v : Values Global) → IsRecord (known before.now) (Data v) bytes.now
-        → result ≡ length (record_rows before.now (Data v)) }
-{
-    match before.env().message_bytes(bytes) {
-        Some(message) => definition_rows(&message.defined.definition),
-        None => unreachable!(),
-    }
 }
 
 /// Takes the definition message with whose rows a text begins into a file.
@@ -51,7 +32,7 @@ fn take_definition<'a>(
         FileTakesRows text.now p.1.now p.0 file.old file.new)) }
     ensures same { IfOk result (λ found. IsNone found → file.new ≡ file.old) }
 {
-    let Some((definition, rest)) = reader.whole_definition(&file.before, text)? else {
+    let Some((definition, rest)) = reader.whole_definition(file.before.stream(), text)? else {
         return Ok(None);
     };
     let count = definition_rows(&definition);
@@ -73,12 +54,10 @@ fn take_message<'a>(
         FileTakesRows text.now p.1.now p.0 file.old file.new)) }
     ensures same { IfOk result (λ found. IsNone found → file.new ≡ file.old) }
 {
-    let Some(left) = reader.whole_message(&file.before, text)? else {
+    let Some((count, left)) = reader.whole_message(&mut file.before, text)? else {
         return Ok(None);
     };
-    let bytes = reader.bytes();
-    let count = message_rows(&file.before, bytes);
-    file.add_message(bytes)?;
+    file.add_message(reader.bytes())?;
     Ok(Some((count, left)))
 }
 

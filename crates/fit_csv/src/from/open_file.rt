@@ -22,6 +22,7 @@ use fit_encode::SpelledRecords;
 use fit_frame::Header;
 use fit_profile::Stream;
 use fit_record::{Record, Values};
+use fit_rows::RowStream;
 use std::alloc::Global;
 use std::mem;
 
@@ -39,7 +40,7 @@ pub(crate) struct OpenFile {
     /// The records that are whole.
     pub records: SpelledRecords,
     /// What these records have defined and told, as the rows of data messages need it.
-    pub before: Stream,
+    pub before: RowStream,
     pub part: Part,
 }
 
@@ -132,7 +133,7 @@ impl OpenFile {
         ensures err { IfErr result (λ misfit. misfit ≡ Misfit.NoMemory) }
     {
         self.part = Part::Nothing;
-        self.records.push(self.before.env(), r)?;
+        self.records.push(self.before.stream().env(), r)?;
         self.before.take(r)?;
         Ok(())
     }
@@ -158,7 +159,8 @@ impl OpenFile {
         ensures err { IfErr result (λ misfit. misfit ≡ Misfit.NoMemory) }
     {
         self.part = Part::Nothing;
-        self.records.push_message(self.before.env(), bytes)?;
+        self.records
+            .push_message(self.before.stream().env(), bytes)?;
         self.before.take_message(bytes)?;
         Ok(())
     }
@@ -179,7 +181,7 @@ impl OpenFile {
                 self.part = Part::Definition(definition);
             }
             Part::Message(values) => {
-                if is_whole_message(&self.before, &values) {
+                if is_whole_message(self.before.stream(), &values) {
                     return self.add_record(Record::Values(values));
                 }
                 self.part = Part::Message(values);
@@ -208,7 +210,7 @@ impl OpenFile {
             (row_of cells.now)) }
     {
         let part = mem::replace(&mut self.part, Part::Nothing);
-        let part = next_part(reader, &self.before, part, cells)?;
+        let part = next_part(reader, self.before.stream(), part, cells)?;
         self.add_part(part)
     }
 }

@@ -1,23 +1,9 @@
-use Rattle.fit_rows.proofs.Common.{◌∙◌, [], refl, sym, subst, take, length-map, on_ok_weaker, Global, Data, HasRows, data_rows, dev_layout, layout}
-use Rattle.std.proofs.lemmas.List.{append-nil}
-use Rattle.fit_record.specs.MessageBytes.{message_in}
-use Rattle.fit_record.specs.Records.{IsRecord, sizes}
-use Rattle.fit_frames.proofs.FieldWalks.{field_slot}
-use Rattle.fit_texts.proofs.ItemFacts.{fields_both, fields_long}
+use Rattle.fit_rows.proofs.Common.{◌∙◌, ap, option_and_then}
+use Rattle.std.proofs.lemmas.Option.{same_Some}
+use Rattle.fit_rows.proofs.OpenedRows.{opened_key}
 use Rattle.fit_rows.proofs.message.put_message.Goals as goal
 
-pub unreachable-requires : goal.unreachable-requires
-unreachable-requires c =
-    c.in_default.ensures.found c.requires.record_.0 c.args.bytes.now [] (sym (append-nil c.args.bytes.now))
-    (subst (λ e. IsRecord e (Data c.requires.record_.0) c.args.bytes.now) (sym c.env.ensures) c.requires.record_.1)
-
-pub returns-clause-rows : goal.returns-clause-rows
-returns-clause-rows c = on_ok_weaker c.put_values.result (λ put v is_record.
-    let bytes = c.args.bytes.now in
-    let m = c.in-Some.message in
-    let p = m.defined.now in
-    let order = p.definition.order in
-    let found = c.in-Some.ensures.found v bytes [] (sym (append-nil bytes)) (subst (λ e. IsRecord e (Data v) bytes) (sym c.env.ensures) is_record) in
-    subst (λ w. HasRows (data_rows c.args.stream.now w) c.args.text.now c.put_values.new.text) found.0
-    (put (message_in m) refl refl (fields_long Global order (layout p) (take (sizes (layout p)) m.body.now) ∙ length-map p.definition.fields field_slot)
-    (c.in-Some.ensures.size, sym (fields_both order (layout p) (dev_layout p) m.body.now)))) c.put_values.ensures.rows
+pub put_values-requires-clause-template : goal.put_values-requires-clause-template
+put_values-requires-clause-template c =
+    same_Some c.in-Some.template.now (opened_key c.args.stream.now c.args.message.now)
+    (c.in-Some.ensures ∙ ap (option_and_then (λ t. t)) c.in_ok-find.ensures.found)

@@ -1,4 +1,5 @@
-use Rattle.fit_csv.proofs.Common.{◌≡◌, ◌++◌, sym, subst, csv_text, known, Data, Global, Values}
+use Rattle.fit_csv.proofs.Common.{◌≡◌, ◌∙◌, ◌++◌, ◌×◌, length, refl, sym, ap, subst, reverse, csv_text, known, Data, Global, Record, Values, OpenFile, with_record}
+use Rattle.std.proofs.Common.{List}
 use Rattle.fit_record.specs.Records.{IsRecord}
 use Rattle.fit_rows.specs.ChainRows.{data_rows}
 use Rattle.fit_csv.specs.inner.Judging.{FileTakesRows}
@@ -6,17 +7,14 @@ use Rattle.fit_csv.proofs.WholeRecords.{record-goes-on}
 use Rattle.std.proofs.lemmas.Result.{IfOk-from_err}
 use Rattle.fit_csv.proofs.from.guess.take_message.Goals as goal
 
-pub message_rows-count-requires : goal.message_rows-count-requires
-message_rows-count-requires c =
-    let read : (v : Values Global) × IsRecord (known c.args.file.now.before) (Data v) c.whole_message.new.self
-    × (c.args.text.now ≡ csv_text (data_rows c.args.file.now.before v) ++ c.in-Some.left.now) = rw c.in-Some.is at c.in_ok-left.ensures.read in
-    (read.0, subst (λ b. IsRecord (known c.args.file.now.before) (Data read.0) b) (sym c.bytes-bytes.ensures) read.1)
-
 pub add_message-requires-clause-message : goal.add_message-requires-clause-message
 add_message-requires-clause-message c =
     let read : (v : Values Global) × IsRecord (known c.args.file.now.before) (Data v) c.whole_message.new.self
-    × (c.args.text.now ≡ csv_text (data_rows c.args.file.now.before v) ++ c.in-Some.left.now) = rw c.in-Some.is at c.in_ok-left.ensures.read in
-    (read.0, subst (λ b. IsRecord (known c.args.file.now.before) (Data read.0) b) (sym c.bytes-bytes.ensures) read.1)
+    × (c.args.text.now ≡ csv_text (data_rows c.args.file.now.before v) ++ c.in-Some.left.now) = rw c.in-Some.is at c.in_ok-whole_message.ensures.read in (
+      read.0,
+      subst (λ (before : List (Record Global)). IsRecord (known before) (Data read.0) c.bytes.result.now) (sym c.whole_message.ensures.unchanged)
+          (subst (λ b. IsRecord (known c.args.file.now.before) (Data read.0) b) (sym c.bytes.ensures) read.1),
+    )
 
 pub returns-clause-rows : goal.returns-clause-rows
 returns-clause-rows c =
