@@ -1,17 +1,16 @@
 -- The blocks of data messages.
-use Rattle.std.proofs.Common.{◌≡◌, ◌∙◌, ℕ, zero, suc, ◌+◌, ◌%◌, ◌<◌, ◌≤◌, List, [], ◌∷◌, ◌++◌, All, Bool, true, false, ap, ap₂, refl, sym, arith, subst}
-use Rattle.std.proofs.Common.{length, take, drop, get_or, append_assoc, lit<, cond, eqb-true}
+use Rattle.std.proofs.Common.{◌≡◌, ◌∙◌, ℕ, suc, ◌+◌, ◌≤◌, List, [], ◌∷◌, ◌++◌, Bool, true, ap, ap₂, refl, sym, arith, subst}
+use Rattle.std.proofs.Common.{length, take, drop, get_or, append_assoc, eqb-true}
 use Rattle.std.proofs.Math.Seq.{drop-append_seam}
-use Rattle.std.proofs.lemmas.List.{append-nil, drop-take, length-append, length-take-le, take-take}
+use Rattle.std.proofs.lemmas.List.{drop-take, length-append, length-take-le, take-take}
 use Rattle.std.proofs.lemmas.List.Folds.{list_all-map}
 use Rattle.std.proofs.lemmas.List.Sums.{AllPass-from_list_all, sum_by-append}
 use Rattle.std.proofs.lemmas.Option.{get_or_from_slice_get, slice_get_within}
 use Rattle.std.specs.Global.{Global}
 use Rattle.std.specs.Prelude.{◌==◌, IsSomeAnd, None, Option, Some, flat_map, option_map, slice_get, unwrap_or}
-use Rattle.fit_base.specs.BaseTypes.{base_type, item_width}
+use Rattle.fit_base.specs.BaseTypes.{base_type}
 use Rattle.fit_base.proofs.ByteLists.{IsBytes-take, IsBytes-drop}
 use Rattle.fit_base.specs.Numbers.{IsBytes}
-use Rattle.fit_base.specs.declared.items.Items.{Items}
 use Rattle.fit_base.specs.declared.number.Order.TheVariants.{Little}
 use Rattle.fit_record.proofs.Gathering.{fields_front}
 use Rattle.fit_record.proofs.OneRecord.{one_record}
@@ -19,7 +18,7 @@ use Rattle.fit_record.proofs.RecordLengths.{length-data}
 use Rattle.fit_record.proofs.ReadMessages.{message_fits}
 use Rattle.fit_record.specs.ReadMessages.{fields_from, values_from}
 use Rattle.fit_record.specs.Environment.{Environment, defined_at}
-use Rattle.fit_record.specs.Records.{DataFits, Fits, HaveShape, IsRecord, data_bytes, data_header, dev_layout, layout, message_size, order_at, sizes}
+use Rattle.fit_record.specs.Records.{DataFits, Fits, IsRecord, data_bytes, data_header, dev_layout, layout, message_size, order_at, sizes}
 use Rattle.fit_record.specs.declared.message.Record.TheVariants.{Values as Data}
 use Rattle.fit_record.specs.declared.environment.Defined.{Defined}
 use Rattle.fit_record.specs.declared.message.Record.{Record}
@@ -30,45 +29,29 @@ use Rattle.fit_profile.specs.Looks.{known}
 use Rattle.fit_profile.specs.Taken.{has_lone_fields}
 use Rattle.fit_profile.specs.Told.{told}
 use Rattle.fit_profile.specs.declared.told.Told.{Told}
-use Rattle.fit_messages.proofs.ItemFacts.{width_small}
 use Rattle.fit_messages.specs.Blocks.{counts, flag, message_after, message_block, message_head, sized, slot, told_bits}
 use Rattle.fit_messages.specs.declared.message.Head.{Head}
 use Rattle.fit_messages.specs.inner.Heads.{IsHeadOf, TellsTimesAlone, head_bytes}
 use Rattle.fit_messages.specs.inner.Sheets.{AreLone, slots_from}
 
--- room for a length and three parts are put after nothing
-all_put : (room h f d b0 b1 b2 b3 : List ℕ) → b0 ≡ [] → b1 ≡ b0 ++ (room ++ h) → b2 ≡ b1 ++ f → b3 ≡ b2 ++ d → b3 ≡ room ++ ((h ++ f) ++ d)
-all_put room h f d b0 b1 b2 b3 none first second third =
-    third ∙ ap (λ b. b ++ d) (second ∙ ap (λ b. b ++ f) (first ∙ ap (λ b. b ++ (room ++ h)) none))
-    ∙ ap (λ b. b ++ d) (append_assoc room h f) ∙ append_assoc room (h ++ f) d
+-- room for a length and two parts are put after nothing
+all_put : (room h f b0 b1 b2 : List ℕ) → b0 ≡ [] → b1 ≡ b0 ++ (room ++ h) → b2 ≡ b1 ++ f → b2 ≡ room ++ (h ++ f)
+all_put room h f b0 b1 b2 none first second =
+    second ∙ ap (λ b. b ++ f) (first ∙ ap (λ b. b ++ (room ++ h)) none) ∙ append_assoc room h f
 
-pub parts_put : (room h f d b0 b1 b2 b3 : List ℕ) → length room ≡ 4 → b0 ≡ [] → b1 ≡ b0 ++ (room ++ h) → b2 ≡ b1 ++ f → b3 ≡ b2 ++ d
-    → drop 4 b3 ≡ (h ++ f) ++ d
-parts_put room h f d b0 b1 b2 b3 long none first second third =
-    ap (drop 4) (all_put room h f d b0 b1 b2 b3 none first second third) ∙ ap (λ k. drop k (room ++ ((h ++ f) ++ d))) (sym long)
-    ∙ drop-append_seam room ((h ++ f) ++ d)
+pub two_put : (room h f b0 b1 b2 : List ℕ) → length room ≡ 4 → b0 ≡ [] → b1 ≡ b0 ++ (room ++ h) → b2 ≡ b1 ++ f → drop 4 b2 ≡ h ++ f
+two_put room h f b0 b1 b2 long none first second =
+    ap (drop 4) (all_put room h f b0 b1 b2 none first second) ∙ ap (λ k. drop k (room ++ (h ++ f))) (sym long) ∙ drop-append_seam room (h ++ f)
 
-pub room_left : (room h f d b0 b1 b2 b3 : List ℕ) → length room ≡ 4 → b0 ≡ [] → b1 ≡ b0 ++ (room ++ h) → b2 ≡ b1 ++ f → b3 ≡ b2 ++ d → 4 ≤ length b3
-room_left room h f d b0 b1 b2 b3 long none first second third =
-    omega (arith, long, ap length (all_put room h f d b0 b1 b2 b3 none first second third), length-append room ((h ++ f) ++ d))
+pub room_left : (room h f b0 b1 b2 : List ℕ) → length room ≡ 4 → b0 ≡ [] → b1 ≡ b0 ++ (room ++ h) → b2 ≡ b1 ++ f → 4 ≤ length b2
+room_left room h f b0 b1 b2 long none first second =
+    omega (arith, long, ap length (all_put room h f b0 b1 b2 none first second), length-append room (h ++ f))
 
 -- the block of a message by the definition of its local message type
 pub message_is : {A : Type 0} (before : List (Record A)) (file place number : ℕ) (v : Values A) (p : Defined A) → Some p ≡ defined_at (known before) v.local
     → message_block file place number v p.definition (told before v) ≡ message_after before file place number v
 message_is before file place number v p known_ =
     ap (λ o. unwrap_or (option_map (λ (q : Defined _). message_block file place number v q.definition (told before v)) o) []) known_
-
-item_width_small : (code size : ℕ) → item_width code size < 9
-item_width_small code size =
-    elim (size % (base_type code).width == 0) as (λ b. cond b (base_type code).width 1 < 9) [ true ↦ width_small code | false ↦ lit< tt ]
-
--- the items of fields have at most eight bytes each
-pub widths_small : {A : Type 0} (fs : List (ℕ × ℕ)) (items : List (Items A)) → HaveShape fs items → All (λ (i : Items A). i.width ≤ 8) items
-widths_small [] [] shape k d within = absurd (omega (arith, within))
-widths_small [] (i ∷ items) shape k d within = absurd shape
-widths_small (f ∷ fs) [] shape k d within = absurd shape
-widths_small (f ∷ fs) (i ∷ items) shape zero d within = omega (arith, item_width_small f.0 f.1, shape.0.width)
-widths_small (f ∷ fs) (i ∷ items) shape (suc k) d within = widths_small fs items shape.1 k d (omega (arith, within))
 
 -- the message is one of the definition of its local message type
 pub data_fits : {A : Type 0} (e : Environment A) (v : Values A) (p : Defined A) → Fits e (Data v) → Some p ≡ defined_at e v.local → DataFits v p
@@ -108,13 +91,6 @@ slots_are p local n offset bytes long =
     ap₂ (λ fields dev. flat_map slot fields ++ flat_map slot dev)
     (fields_front {A = Global} o (layout p) bytes ∙ ap (fields_from {A = Global} o (layout p)) (sym front))
     (fields_front {A = Global} o (dev_layout p) (drop k bytes) ∙ ap (fields_from {A = Global} o (dev_layout p)) (sym back))
-
--- ---- what is put
-
--- room for a length and two parts are put after nothing
-pub two_put : (room h f b0 b1 b2 : List ℕ) → length room ≡ 4 → b0 ≡ [] → b1 ≡ b0 ++ (room ++ h) → b2 ≡ b1 ++ f → drop 4 b2 ≡ h ++ f
-two_put room h f b0 b1 b2 long none first second =
-    parts_put room h f [] b0 b1 b2 b2 long none first second (sym (append-nil b2)) ∙ append-nil (h ++ f)
 
 -- ---- fields of one number
 

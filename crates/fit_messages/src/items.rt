@@ -1,5 +1,5 @@
-//! The items of the fields of a message, made or in their bytes.
-ghost use Rattle.std.specs.Prelude.{◌≡◌, ◌⊎◌, ◌≤◌, ◌+◌, ◌*◌, ◌/◌, ◌++◌, All, IfOk, OnOk, drop, flat_map, length, take};
+//! The items of the fields of a message, by its bytes.
+ghost use Rattle.std.specs.Prelude.{◌≡◌, ◌⊎◌, ◌≤◌, ◌+◌, ◌*◌, ◌/◌, ◌++◌, IfOk, OnOk, drop, flat_map, length, take};
 ghost use Rattle.std.specs.Global.{Global};
 ghost use Rattle.fit_base.specs.BaseTypes.{base_type};
 ghost use Rattle.fit_base.specs.Numbers.{number};
@@ -10,41 +10,9 @@ ghost use Rattle.fit_messages.specs.inner.Sheets.{AreLone, with_sheet};
 
 use crate::bytes::{put_gap, put_number, put_rounded};
 use crate::sheet::{Sheet, make_room, put_sheet, write_low};
-use fit_base::{Code, Items, Order, bits_at, greatest, width_of};
+use fit_base::{Code, Order, bits_at, greatest, width_of};
 use fit_record::Layout;
 use std::alloc::AllocError;
-
-/// Puts numbers of this width, one after another.
-fn put_numbers(bytes: &mut Vec<u8>, width: u8, numbers: &[u64]) -> Result<(), AllocError>
-    requires { width ≤ 8 }
-    ensures { OnOk result (bytes.new.items
-        ≡ bytes.old.items ++ flat_map (low width) numbers.now) }
-{
-    for number in numbers {
-        put_number(bytes, width, *number)?;
-    }
-    Ok(())
-}
-
-/// Puts the items of a field.
-fn put_made(bytes: &mut Vec<u8>, items: &Items) -> Result<(), AllocError>
-    requires { items.now.width ≤ 8 }
-    ensures { OnOk result (bytes.new.items ≡ bytes.old.items ++ slot items.now) }
-{
-    put_numbers(bytes, items.width, items.bits.as_slice())?;
-    put_gap(bytes, items.bits.len() * items.width as usize)
-}
-
-/// Puts the items of fields.
-pub(crate) fn put_all_made(bytes: &mut Vec<u8>, all: &[Items]) -> Result<(), AllocError>
-    requires { All (λ i. i.width ≤ 8) all.now }
-    ensures { OnOk result (bytes.new.items ≡ bytes.old.items ++ flat_map slot all.now) }
-{
-    for items in all {
-        put_made(bytes, items)?;
-    }
-    Ok(())
-}
 
 /// Puts the numbers of this width that bytes are.
 #[inline(never)]

@@ -1,5 +1,5 @@
 //! The blocks of data messages.
-ghost use Rattle.std.specs.Prelude.{◌≡◌, ◌≤◌, ◌+◌, ◌++◌, All, IfOk, OnOk, Some, drop, flat_map, length, slice_index_or, take, true};
+ghost use Rattle.std.specs.Prelude.{◌≡◌, ◌≤◌, ◌+◌, ◌++◌, IfOk, OnOk, Some, drop, flat_map, length, slice_index_or, take, true};
 ghost use Rattle.std.specs.Global.{Global};
 ghost use Rattle.fit_profile.specs.Looks.{known};
 ghost use Rattle.fit_record.specs.Environment.{defined_at};
@@ -12,11 +12,11 @@ ghost use Rattle.fit_messages.specs.Blocks.{slot};
 ghost use Rattle.fit_messages.specs.inner.Heads.{TellsTimesAlone, head_bytes, opening_bytes};
 ghost use Rattle.fit_messages.specs.inner.Sheets.{IsQuick, slots_from, with_sheet};
 
-use crate::bytes::{Front, Place, put_block_of_bytes};
-use crate::items::{add_all_read, put_all_made, write_lone};
-use crate::sheet::{SHEET, Sheet, put_block, put_sheet, write_front, write_low};
+use crate::bytes::{Front, Place};
+use crate::items::{add_all_read, write_lone};
+use crate::sheet::{SHEET, Sheet, put_block, write_front, write_low};
 use fit_profile::{Stream, Told};
-use fit_record::{Defined, Layout, Values};
+use fit_record::{Defined, Layout};
 use std::alloc::AllocError;
 
 /// What stands before the items of a message after the length of its block.
@@ -119,28 +119,6 @@ fn write_head(sheet: &mut Sheet, head: Head) -> usize
         return write_amounts(sheet, at, head.told);
     }
     write_opening(sheet, head, time_bits(head.told))
-}
-
-/// Puts the block of a message of which this stands before its items. `rest` lends its memory.
-pub(crate) fn put_values(
-    text: &mut Vec<u8>,
-    rest: &mut Vec<u8>,
-    sheet: &mut Sheet,
-    head: Head,
-    values: &Values,
-) -> Result<(), AllocError>
-    requires head { TellsTimesAlone head }
-    requires fields { All (λ i. i.width ≤ 8) values.now.fields }
-    requires dev { All (λ i. i.width ≤ 8) values.now.dev }
-    ensures { OnOk result (text.new.items ≡ text.old.items ++ blocks.sized
-        (head_bytes head ++ flat_map slot values.now.fields ++ flat_map slot values.now.dev)) }
-{
-    rest.clear();
-    let at = write_head(sheet, head);
-    put_sheet(rest, sheet, at)?;
-    put_all_made(rest, values.fields.as_slice())?;
-    put_all_made(rest, values.dev.as_slice())?;
-    put_block_of_bytes(text, rest.as_slice())
 }
 
 /// How many fields of one number have room in a sheet after what stands before them.

@@ -15,9 +15,10 @@ ghost use Rattle.fit_messages.specs.inner.Telling.{block_next, kept_next};
 
 use crate::bytes::{Front, Place, put_front, put_number, put_rounded, put_sized};
 use crate::definition::put_definition;
-use crate::message::{Head, number_at, put_message, put_values};
+use crate::message::{Head, number_at, put_message};
 use crate::sheet::{SHEET, Sheet};
 use fit_decode::{Decoder, Event};
+use fit_encode::spell;
 use fit_frame::{Header, HeaderSum};
 use fit_profile::Stream;
 use fit_profile::laws::looking_back_is_learning;
@@ -26,6 +27,7 @@ use fit_report::Report;
 use fit_report::laws::{heard_are_few, heard_records_fit};
 use std::alloc::{AllocError, Global};
 use std::marker::Model;
+use std::mem;
 
 /// Makes a block of bytes of each event of a chain of files: of a header, a definition message, a data message, and the end of a file
 /// (`docs/BLOCKS.md`). Clauses see what it keeps of the events that it has heard.
@@ -40,6 +42,8 @@ pub struct MessagesReport {
     place: u64,
     /// Where a block is made.
     rest: Vec<u8>,
+    /// The memory of the bytes of a data message that came in pieces.
+    bytes: Vec<u8>,
     /// Where the parts of a message are written first.
     sheet: Sheet,
     alloc: Global,
@@ -71,6 +75,7 @@ impl MessagesReport {
             numbers: [0; 16],
             place: 0,
             rest: Vec::new(alloc),
+            bytes: Vec::new(alloc),
             sheet: [0; SHEET],
             alloc,
         }
@@ -255,41 +260,8 @@ impl MessagesReport {
         Ok(())
     }
 
-    /// Takes in a data message, and puts its block.
-    fn take_values(
-        &mut self,
-        text: &mut Vec<u8>,
-        record_: &Record,
-        values: &Values,
-    ) -> Result<(), AllocError>
-        requires same { record_.now ≡ Data values.now }
-        requires fits { Fits (known self.old.records) record_.now }
-        ensures kept { OnOk result (self.new ≡ kept_next self.old (events.item record_.now)) }
-        ensures text { OnOk result (text.new.items
-            ≡ text.old.items ++ block_next self.old (events.item record_.now)) }
-    {
-        let length = length_of(&self.stream, record_);
-        let Some(told) = self.stream.told(record_) else {
-            unreachable!()
-        };
-        let place = self.here();
-        let number = number_at(&self.numbers, values.local);
-        let counts = self.stream.may_count(values.local);
-        let head = Head {
-            place,
-            number,
-            local: values.local,
-            offset: values.offset,
-            counts,
-            told,
-        };
-        put_values(text, &mut self.rest, &mut self.sheet, head, values)?;
-        self.stream.take(record_)?;
-        self.place = self.place.wrapping_add(u64::from(length));
-        Ok(())
-    }
-
     /// Takes in the data message that the first bytes of a piece are, that many, and puts its block.
+    #[inline(always)]
     fn take_message(
         &mut self,
         text: &mut Vec<u8>,
@@ -330,6 +302,26 @@ impl MessagesReport {
         )?;
         self.place = self.place.wrapping_add(size as u64);
         Ok(())
+    }
+
+    /// Takes in a data message, and puts its block: by its bytes, as where it is skipped.
+    fn take_values(
+        &mut self,
+        text: &mut Vec<u8>,
+        record_: &Record,
+        values: &Values,
+    ) -> Result<(), AllocError>
+        requires same { record_.now ≡ Data values.now }
+        requires fits { Fits (known self.old.records) record_.now }
+        ensures kept { OnOk result (self.new ≡ kept_next self.old (events.item record_.now)) }
+        ensures text { OnOk result (text.new.items
+            ≡ text.old.items ++ block_next self.old (events.item record_.now)) }
+    {
+        spell(&mut self.bytes, self.stream.env(), record_)?;
+        let bytes = mem::replace(&mut self.bytes, Vec::new(self.alloc));
+        let taken = self.take_message(text, bytes.as_slice(), bytes.len());
+        self.bytes = bytes;
+        taken
     }
 }
 

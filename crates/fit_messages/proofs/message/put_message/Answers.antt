@@ -1,5 +1,5 @@
-use Rattle.std.proofs.Common.{◌∙◌, ◌++◌, ◌≤◌, [], ap, arith, length, subst, sym, take}
-use Rattle.std.proofs.lemmas.List.{append-nil, length-take-le}
+use Rattle.std.proofs.Common.{◌∙◌, ◌++◌, ◌≤◌, ap, arith, length, subst, sym, take}
+use Rattle.std.proofs.lemmas.List.{length-take-le}
 use Rattle.std.proofs.lemmas.Option.{none-some, same_Some}
 use Rattle.std.proofs.lemmas.Result.{on_ok_weaker}
 use Rattle.std.specs.Global.{Global}
@@ -39,8 +39,8 @@ put_block-requires-clause-room c =
     let b0 = c.clear.new.self.items in
     let b1 = with_sheet b0 c.write_head-at.new.sheet c.write_head-at.result in
     let b2 = with_sheet c.add_any_items.new.rest.items c.add_any_items.new.sheet c.in_ok-at.at in
-    room_left (take 4 sheet) _ _ [] b0 b1 b2 b2 (length-take-le 4 sheet (omega (arith, c.told-sheet))) c.clear.ensures.items
-    (ap (λ b. b0 ++ b) c.write_head-at.ensures.text) c.in_ok-at.ensures.text (sym (append-nil b2))
+    room_left (take 4 sheet) _ _ b0 b1 b2 (length-take-le 4 sheet (omega (arith, c.told-sheet))) c.clear.ensures.items
+    (ap (λ b. b0 ++ b) c.write_head-at.ensures.text) c.in_ok-at.ensures.text
 
 pub returns : goal.returns
 returns c = on_ok_weaker c.put_block.result (λ put p is.
