@@ -1,4 +1,4 @@
-mod KnownBlocks
+pub mod KnownBlocks
 pub mod ByteFacts
 pub mod ItemFacts
 pub mod EntryFacts
