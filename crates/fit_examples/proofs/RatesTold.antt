@@ -1,6 +1,6 @@
 -- What is told of events, one after another, is one JSON document.
-use Rattle.fit_examples.proofs.Common.{◌≡◌, ◌∙◌, ℕ, List, [], ◌∷◌, ◌++◌, true, false, Ok, Err, reverse, refl, sym, ap, ap₂, subst, append_assoc, append-nil, flat_map}
-use Rattle.fit_examples.proofs.Common.{Global, FitFile, Record, Event, file_end, file_events, header, item, hear, latest_records}
+use Rattle.fit_examples.proofs.Common.{◌≡◌, ◌∙◌, ℕ, List, [], ◌∷◌, ◌++◌, true, false, Ok, Err, reverse, refl, sym, ap, ap₂, subst, append_assoc}
+use Rattle.fit_examples.proofs.Common.{append-nil, flat_map, Global, FitFile, Record, Event, file_end, file_events, header, item, hear, latest_records}
 use Rattle.fit_examples.proofs.Noted.{chain_moments, moments_on, records_on}
 use Rattle.std.specs.Prelude.{◌||◌, Bool, Result, codes}
 use Rattle.std.specs.Io.KnownBytes.{Appends}
