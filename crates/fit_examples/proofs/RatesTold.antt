@@ -1,20 +1,20 @@
 -- What is told of events, one after another, is one JSON document.
-use Rattle.fit_examples.proofs.Common.{◌≡◌, ◌∙◌, ℕ, List, [], ◌∷◌, ◌++◌, true, false, Ok, Err, reverse, refl, sym, ap, ap₂, subst, append_assoc, append-nil, flat_map}
-use Rattle.fit_examples.proofs.Common.{Global, FitFile, Record, Event, file_end, file_events, header, item, hear, latest_records}
+use Rattle.fit_examples.proofs.Common.{◌≡◌, ◌∙◌, ℕ, List, [], ◌∷◌, ◌++◌, true, false, Ok, Err, reverse, refl, sym, ap, ap₂, subst, append_assoc}
+use Rattle.fit_examples.proofs.Common.{append-nil, flat_map, Global, FitFile, Record, Event, file_end, file_events, header, item, hear, latest_records}
 use Rattle.fit_examples.proofs.Noted.{chain_moments, moments_on, records_on}
 use Rattle.std.specs.Prelude.{◌||◌, Bool, Result, codes}
 use Rattle.std.specs.Io.KnownBytes.{Appends}
 use Rattle.fit_chain.specs.declared.event.Event.{Event as Answer}
 use Rattle.fit_chain.specs.declared.event.Event.TheVariants as answers
 use Rattle.fit_chain.specs.declared.event.Fault.TheVariants as faults
-use Rattle.fit_report.specs.Documents.{ReportsChainDocument, ReportsDocument, document_of}
+use Rattle.fit_report.specs.Documents.{ReportsChainDocument, document_of}
 use Rattle.fit_report.specs.Heard.{line_of, text_of}
 use Rattle.fit_report.specs.Reports.{Channel}
 use Rattle.fit_report.specs.declared.fault.ReportFault.{ReportFault}
 use Rattle.fit_report.specs.declared.fault.ReportFault.TheVariants.{Decode, NoMemory, Write}
 use Rattle.fit_examples.specs.declared.moments.Moment.{Moment}
 use Rattle.fit_examples.specs.HeartRates.{file_moments, record_moments}
-use Rattle.fit_examples.specs.Rates.{PutsRates, ReportsRates, are_some, array_json, moments_heard, rate_json, rate_line, rates_end, rates_json}
+use Rattle.fit_examples.specs.Rates.{PutsRates, are_some, array_json, moments_heard, rate_json, rate_line, rates_end, rates_json}
 use Rattle.fit_examples.specs.inner.Noting.{event_moments, records_after_event}
 
 -- ---- more of an array
@@ -82,10 +82,6 @@ module _ (stream : List (Record Global)) (some : Bool) (heard : List (Event Glob
   next_line old new is = is ∙ ap (λ t. old ++ t) (ap₂ rates_json any own ∙ sym (line_told heard event))
 
 -- ---- the document
-
-pub reports_rates : {R : Type 0} (has_heard : R → List (Event Global) → Type 0) (reporter : R) (source sink : Channel) (result : Result (Unit {0}) ReportFault)
-    → ReportsDocument has_heard reporter rate_line rates_end source sink result → ReportsRates source sink result
-reports_rates has_heard reporter source sink result (taken, heard, eats, told, has) = (taken, heard, eats, told)
 
 pub puts_rates : (fs : List (FitFile Global)) (source sink : Channel) (result : Result (Unit {0}) ReportFault)
     → ReportsChainDocument rate_line rates_end fs source sink result → PutsRates (flat_map file_moments fs) source sink result

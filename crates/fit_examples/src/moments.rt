@@ -57,10 +57,7 @@ fn moment_of(message: Option<Message>) -> Option<Moment>
 }
 
 /// Takes an event into the stream, and returns the moment of a record message. A header begins a file.
-pub(crate) fn moment_told(
-    stream: &mut Stream,
-    event: &Event,
-) -> Result<Option<Moment>, AllocError>
+pub(crate) fn moment_told(stream: &mut Stream, event: &Event) -> Result<Option<Moment>, AllocError>
     requires { (heard : List (Told Global)) ×
         (stream.old ≡ latest_records heard) × AreHeard (hear event.now heard) }
     ensures stream { OnOk result (stream.new ≡ records_after_event stream.old event.now) }

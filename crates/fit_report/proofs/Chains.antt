@@ -2,7 +2,8 @@
 use Rattle.fit_report.proofs.Common.{◌≡◌, ℕ, suc, ◌<◌, List, [], ◌∷◌, ◌++◌, length, take, drop, get_or, reverse, Option, Some, None, Result, Ok, Err, refl, sym}
 use Rattle.fit_report.proofs.Common.{ap, ◌∙◌, subst, append_assoc, OnOk, flat_map, Appends, Consumes, IsAtEnd, append-nil, take-append-drop, reverse-reverse}
 use Rattle.fit_report.proofs.Common.{drop-cons, FitFile, chain_bytes, chain_limit, IsChain, IsViable, Refused, Truncated, Read, NoRoom, Event, AreEvents}
-use Rattle.fit_report.proofs.Common.{inl, inr, file_events, at_header, ReportFault, Decode, NoMemory, Write, Lines, text_of, Channel, Reports, ReportsChain, HasTold}
+use Rattle.fit_report.proofs.Common.{inl, inr}
+use Rattle.fit_report.proofs.Common.{file_events, at_header, ReportFault, Decode, NoMemory, Write, Lines, text_of, Channel, Reports, ReportsChain, HasTold}
 use Rattle.fit_report.proofs.Common.{HasHeard}
 use Rattle.fit_base.specs.Numbers.{IsBytes}
 use Rattle.fit_report.specs.Documents.{document_of, Ending, HasToldDocument, PutsDocument, ReportsChainDocument, ReportsDocument, TakesAll}

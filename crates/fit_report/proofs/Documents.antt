@@ -1,7 +1,7 @@
 -- What the report of a document did.
 use Rattle.fit_report.proofs.Common.{◌≡◌, ℕ, ◌+◌, ◌-◌, List, [], ◌++◌, length, take, Option, Result, Ok, Err, inl, inr, refl, sym, ap, ◌∙◌, subst, arith}
-use Rattle.fit_report.proofs.Common.{length-append, take-append-add, Appends, OnOk, Global, Event, ReportFault, Decode, NoMemory, Write, Lines, text_of, Channel, Reports}
-use Rattle.fit_report.proofs.Common.{HasHeard, Puts, ToldSoFar}
+use Rattle.fit_report.proofs.Common.{length-append, take-append-add, Appends, OnOk, Global, Event, ReportFault, Decode, NoMemory, Write, Lines, text_of}
+use Rattle.fit_report.proofs.Common.{Channel, Reports, HasHeard, Puts, ToldSoFar}
 use Rattle.std.specs.Prelude.{◌^◌, min}
 use Rattle.fit_encode.proofs.Written.{Appends-on}
 use Rattle.fit_report.specs.Documents.{AreAllHeard, Ending, PutsDocument, ReportsDocument}

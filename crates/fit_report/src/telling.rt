@@ -146,7 +146,11 @@ impl Telling {
 }
 
 /// Puts a text in the sink, where `written` bytes of text were put before.
-pub(crate) fn put_text<K: Sink>(sink: &mut K, text: &[u8], written: &mut u64) -> Result<(), ReportFault>
+pub(crate) fn put_text<K: Sink>(
+    sink: &mut K,
+    text: &[u8],
+    written: &mut u64,
+) -> Result<(), ReportFault>
     ensures puts { Puts text.now (channel K.contents K.has_failed sink.old sink.new)
         written.old written.new result }
     ensures works { OnOk result (K.has_failed sink.old ≡ false → K.has_failed sink.new ≡ false) }

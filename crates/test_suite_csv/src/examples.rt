@@ -195,7 +195,8 @@ fn has_document(
     let mut sink = WriteSink::new(Vec::new(alloc));
     let found = rates_document(alloc, &mut source, &mut sink);
     assert!(rt; found == answer);
-    equal(rt, &sink.into_inner().as_slice(), &text.as_bytes());
+    let made = sink.into_inner();
+    equal(rt, &made.as_slice(), &text.as_bytes());
 }
 
 #[test]

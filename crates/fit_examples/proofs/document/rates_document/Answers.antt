@@ -1,7 +1,9 @@
-use Rattle.fit_examples.proofs.Common.{refl, sym}
 use Rattle.fit_report.specs.Reports.{channel}
 use Rattle.fit_examples.proofs.RatesTold.{puts_rates}
 use Rattle.fit_examples.proofs.document.rates_document.Goals as goal
+
+pub returns-clause-reports : goal.returns-clause-reports
+returns-clause-reports g c = let (taken, heard, eats, told, has) = c.report_document.ensures.reports in (taken, heard, eats, told)
 
 pub returns-clause-chain : goal.returns-clause-chain
 returns-clause-chain g c = λ fs b input are chain.
