@@ -17,6 +17,7 @@ mod write;
 
 pub use encoder::Encoder;
 pub use fault::EncodeFault;
+pub use place::{place_big, place_bytes};
 pub use sink::{CutSink, Sink, SinkFailed, WriteSink, put_all};
 pub use spelled::{SpelledRecords, spell};
 pub use spelled_files::{SpelledFiles, write_spelled};

@@ -14,9 +14,9 @@ use fit_base::{Entries, Items, Order, put_bits};
 use fit_record::{DevDef, FieldDef, MessageDef, Record, Values};
 use std::alloc::Allocator;
 
-/// Writes bytes.
+/// Writes bytes into a slice from a place on, where there is room for them. Returns the place after them.
 #[inline(always)]
-pub(crate) fn place_bytes(bytes: &mut [u8], at: usize, source: &[u8]) -> usize
+pub fn place_bytes(bytes: &mut [u8], at: usize, source: &[u8]) -> usize
     requires { at + length source.now ≤ length bytes.old }
     ensures size { length bytes.new ≡ length bytes.old }
     ensures end { result ≡ at + length source.now }
@@ -64,9 +64,9 @@ fn place_little(bytes: &mut [u8], at: usize, width: u8, bits: u64) -> usize
     at + width as usize
 }
 
-/// Writes a number, the highest byte first.
+/// Writes a number of 1, 2, 4 or 8 bytes into a slice from a place on, the highest byte first. Returns the place after it.
 #[inline(always)]
-fn place_big(bytes: &mut [u8], at: usize, width: u8, bits: u64) -> usize
+pub fn place_big(bytes: &mut [u8], at: usize, width: u8, bits: u64) -> usize
     requires width { (width ≡ 1) ⊎ (width ≡ 2) ⊎ (width ≡ 4) ⊎ (width ≡ 8) }
     requires bits { bits < 256 ^ width }
     requires room { at + 8 ≤ length bytes.old }

@@ -15,9 +15,10 @@ ghost use Rattle.fit_from_messages.specs.inner.Slots.{IsSlot, Knows, SlotsFit, s
 
 use crate::BlockReason;
 use crate::misfit::Misfit;
-use crate::place::{place_bytes, place_slots};
+use crate::place::place_slots;
 use crate::slot::Slot;
 use fit_base::Order;
+use fit_encode::place_bytes;
 use fit_record::{Description, Env};
 use std::alloc::AllocError;
 

@@ -1,7 +1,7 @@
 //! The items of a message's block, written into a slice from a place on as a file has them. Each function returns the place after what it
 //! wrote. A field of at most eight bytes is written with the bytes after it, so that it takes one load and one store: there is always room
 //! for eight bytes more.
-ghost use Rattle.std.specs.Prelude.{◌≡◌, ◌⊎◌, ◌<◌, ◌≤◌, ◌+◌, ◌*◌, ◌^◌, ◌++◌, All, IfSome, IsNone, drop, false, flat_map, length, sum_by, take, true};
+ghost use Rattle.std.specs.Prelude.{◌≡◌, ◌⊎◌, ◌≤◌, ◌+◌, ◌*◌, ◌++◌, All, IfSome, IsNone, drop, false, flat_map, length, sum_by, take, true};
 ghost use Rattle.std.specs.List.{list_all};
 ghost use Rattle.fit_base.specs.Fields.{items_bytes};
 ghost use Rattle.fit_base.specs.Numbers.{number_bytes};
@@ -10,20 +10,8 @@ ghost use Rattle.fit_from_messages.specs.Parts.{items_read, slot_stands};
 ghost use Rattle.fit_from_messages.specs.inner.Slots.{IsSlot, slot_size};
 
 use crate::slot::Slot;
-use fit_base::{Order, bits_at, put_bits};
-
-/// Writes bytes.
-#[inline(always)]
-pub(crate) fn place_bytes(bytes: &mut [u8], at: usize, source: &[u8]) -> usize
-    requires { at + length source.now ≤ length bytes.old }
-    ensures size { length bytes.new ≡ length bytes.old }
-    ensures end { result ≡ at + length source.now }
-    ensures text { take result bytes.new ≡ take at bytes.old ++ source.now }
-{
-    let end = at + source.len();
-    bytes[at..end].copy_from_slice(source);
-    end
-}
+use fit_base::{Order, bits_at};
+use fit_encode::{place_big, place_bytes};
 
 /// Writes that many first bytes of some others.
 #[inline(always)]
@@ -42,36 +30,6 @@ fn place_first(bytes: &mut [u8], at: usize, source: &[u8], size: usize) -> usize
     }
     let (piece, _) = source.split_at(size);
     place_bytes(bytes, at, piece)
-}
-
-/// The bytes of a number, the highest first.
-#[inline(always)]
-fn big_bytes<const WIDTH: usize>(bits: u64) -> [u8; WIDTH]
-    requires width { (WIDTH ≡ 1) ⊎ (WIDTH ≡ 2) ⊎ (WIDTH ≡ 4) ⊎ (WIDTH ≡ 8) }
-    requires bits { bits < 256 ^ WIDTH }
-    ensures { result ≡ number_bytes Order.Big WIDTH bits }
-{
-    let mut bytes = [0; WIDTH];
-    put_bits(Order::Big, WIDTH as u8, bits, &mut bytes);
-    bytes
-}
-
-/// Writes a number, the highest byte first.
-#[inline(always)]
-fn place_big(bytes: &mut [u8], at: usize, width: u8, bits: u64) -> usize
-    requires width { (width ≡ 1) ⊎ (width ≡ 2) ⊎ (width ≡ 4) ⊎ (width ≡ 8) }
-    requires bits { bits < 256 ^ width }
-    requires room { at + 8 ≤ length bytes.old }
-    ensures size { length bytes.new ≡ length bytes.old }
-    ensures end { result ≡ at + width }
-    ensures text { take result bytes.new ≡ take at bytes.old ++ number_bytes Order.Big width bits }
-{
-    match width {
-        1 => place_bytes(bytes, at, &big_bytes::<1>(bits)),
-        2 => place_bytes(bytes, at, &big_bytes::<2>(bits)),
-        4 => place_bytes(bytes, at, &big_bytes::<4>(bits)),
-        _ => place_bytes(bytes, at, &big_bytes::<8>(bits)),
-    }
 }
 
 /// Writes that many numbers of this width, which begin some bytes with their lowest byte first, with their highest byte first.
