@@ -1,8 +1,8 @@
 -- The table of a chain: it is that of its events, and its text reads as its rows.
-use Rattle.fit_table.proofs.Common.{◌≡◌, ◌≢◌, drop, ◌∙◌, ◌+◌, Bool, true, false, [], ◌∷◌, ◌++◌, map, refl, sym, ap, arith, append_assoc, flat_map, AllByRecursion}
+use Rattle.fit_table.proofs.Common.{◌≡◌, ◌≢◌, ◌∙◌, ◌+◌, Bool, true, false, [], ◌∷◌, ◌++◌, map, refl, sym, ap, arith, append_assoc, flat_map, AllByRecursion}
 use Rattle.fit_table.proofs.Common.{Defined, FitFile, Record, Define, Data, Values, defined_at, Event, item, file_end, file_events, known, NoneEmpty, Row}
 use Rattle.fit_table.proofs.Common.{RowsOfText, csv_text, begins-otherwise, reads_back, table_events_rows, table_files_rows, table_line, table_of}
-use Rattle.fit_table.proofs.Common.{table_record_rows, table_records_rows, table_row, table_rows}
+use Rattle.fit_table.proofs.Common.{drop, table_record_rows, table_records_rows, table_row, table_rows}
 use Rattle.std.proofs.Common.{◌==◌, if◌then◌else◌, ℕ, List, Option, Some, None}
 use Rattle.std.specs.Prelude.{codes, option_map, unwrap_or}
 use Rattle.fit_profile.specs.Told.{told}

@@ -1,5 +1,6 @@
 -- Where the numbers of the table stand in the bytes of record messages of a definition. No public contract names these definitions.
-use Rattle.std.specs.Prelude.{◌≡◌, ◌≤◌, ◌<◌, ◌+◌, ◌==◌, ◌||◌, ℕ, Bool, List, Option, None, Some, false, drop, length, map, slice_index_or, take, ℤ, pos, IsSomeAnd, IfSome}
+use Rattle.std.specs.Prelude.{◌≡◌, ◌≤◌, ◌<◌, ◌+◌, ◌==◌, ◌||◌, ℕ, Bool, List, Option, None, Some, false, drop, length, map, slice_index_or, take}
+use Rattle.std.specs.Prelude.{ℤ, pos, IsSomeAnd, IfSome}
 use Rattle.std.specs.Prelude.{if◌then◌else◌, option_and_then, option_map}
 use Rattle.std.specs.Global.{Global}
 use Rattle.fit_base.specs.declared.number.Order.{Order}

@@ -28,7 +28,8 @@ returns-in-At-clause-cell c d v t are =
     let found = first_at s o c.args.self.now.bytes.now d v (shown_number c.args.field) first.0 are.fields in
     let put = c.write_placed.result in
     subst (λ known. PutsCell (amount_of known) put.0 (take c.args.at c.args.row.now) (take put.1 c.write_placed.new.row))
-    (ap (λ n. meant_number n s.field items) first.0.numbered ∙ meant_first d v (shown_number c.args.field) s.field items are.global found) c.write_placed.ensures.cell
+    (ap (λ n. meant_number n s.field items) first.0.numbered ∙ meant_first d v (shown_number c.args.field) s.field items are.global found)
+    c.write_placed.ensures.cell
 
 pub returns-in-Absent-clause-cell : goal.returns-in-Absent-clause-cell
 returns-in-Absent-clause-cell c d v t are =
@@ -53,5 +54,6 @@ returns-in-Wide-clause-cell c d v t are =
     let found = first_at s o c.args.self.now.bytes.now d v (shown_number c.args.field) first are.fields in
     let put = c.write_number.result in
     subst (λ cell. PutsCell cell put.0 (take c.args.at c.args.row.now) (take put.1 c.write_number.new.row))
-    (value_shown (first_number s.field items) (field 20 (shown_number c.args.field)) c.value.result (known_scale 20 (shown_number c.args.field)) c.value.ensures.value
+    (value_shown (first_number s.field items) (field 20 (shown_number c.args.field)) c.value.result (known_scale 20 (shown_number c.args.field))
+    c.value.ensures.value
     ∙ ap amount_of (meant_first d v (shown_number c.args.field) s.field items are.global found)) c.write_number.ensures.cell
