@@ -4,10 +4,10 @@ use Rattle.std.proofs.lemmas.Result.{IfOk-from_err}
 use Rattle.fit_csv.proofs.from.open_file.OpenFile.add.Goals as goal
 
 pub push-requires-clause-known : goal.push-requires-clause-known
-push-requires-clause-known c = c.env.ensures ∙ ap known c.requires.same_records ∙ known_learned c.args.self.now.records
+push-requires-clause-known c = c.env.ensures ∙ ap known (c.stream.ensures ∙ c.requires.same_records) ∙ known_learned c.args.self.now.records
 
 pub push-requires-clause-fits : goal.push-requires-clause-fits
-push-requires-clause-fits c = subst (λ (e : Environment Global). Fits e c.args.r.now) (sym c.env.ensures) c.requires.fits
+push-requires-clause-fits c = subst (λ (e : Environment Global). Fits e c.args.r.now) (sym (c.env.ensures ∙ ap known c.stream.ensures)) c.requires.fits
 
 pub returns-in_err-push-clause-ok : goal.returns-in_err-push-clause-ok
 returns-in_err-push-clause-ok c = IfOk-from_err c.from_residual.result _ c.from_residual.ensures.0

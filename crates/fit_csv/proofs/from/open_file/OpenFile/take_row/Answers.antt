@@ -1,4 +1,5 @@
-use Rattle.fit_csv.proofs.Common.{sym, subst, PartHasRoom, PartStep, row_of, Part}
+use Rattle.fit_csv.proofs.Common.{sym, subst, Global, PartHasRoom, PartStep, Record, row_of, Part}
+use Rattle.std.proofs.Common.{List}
 use Rattle.fit_csv.proofs.SoundSteps.{part-fits, part-room, part-sound}
 use Rattle.std.proofs.lemmas.Result.{IfOk-from_err}
 use Rattle.fit_csv.proofs.Common.{◌∙◌, on_ok_weaker, MatchResult-weaker, err_from_is_err_and, IsMisfit, CanStandNext}
@@ -9,14 +10,16 @@ use Rattle.fit_csv.proofs.from.open_file.OpenFile.take_row.Goals as goal
 pub next_part-requires-clause-room : goal.next_part-requires-clause-room
 next_part-requires-clause-room c =
     let f = c.args.self.now in
-    subst (PartHasRoom c.args.self.now.before) (sym c.replace-part.ensures.value) (part-room f.before f.part c.requires.sound.part.0)
+    subst (λ (before : List (Record Global)). PartHasRoom before c.replace-part.result) (sym c.stream.ensures)
+    (subst (PartHasRoom f.before) (sym c.replace-part.ensures.value) (part-room f.before f.part c.requires.sound.part.0))
 
 pub add_part-requires-clause-fits : goal.add_part-requires-clause-fits
 add_part-requires-clause-fits c =
     let f = c.args.self.now in
     let r = row_of c.args.cells.now in
     let step = subst (λ (part : Part). PartStep c.args.self.now.before part (row_of c.args.cells.now) c.in_ok-part.part) c.replace-part.ensures.value
-    c.in_ok-part.ensures.ok in
+    (subst (λ (before : List (Record Global)). PartStep before c.replace-part.result (row_of c.args.cells.now) c.in_ok-part.part) c.stream.ensures
+    c.in_ok-part.ensures.ok) in
     part-fits f.before c.in_ok-part.part (part-sound f.before f.part r c.in_ok-part.part c.requires.sound.part step)
 
 pub add_part-requires-clause-same_records : goal.add_part-requires-clause-same_records
@@ -28,7 +31,8 @@ returns-in_err-part-clause-ok c = IfOk-from_err c.from_residual.result _ c.from_
 pub returns-clause-ok : goal.returns-clause-ok
 returns-clause-ok c =
     let step = subst (λ (part : Part). PartStep c.args.self.now.before part (row_of c.args.cells.now) c.in_ok-part.part) c.replace-part.ensures.value
-    c.in_ok-part.ensures.ok in
+    (subst (λ (before : List (Record Global)). PartStep before c.replace-part.result (row_of c.args.cells.now) c.in_ok-part.part) c.stream.ensures
+    c.in_ok-part.ensures.ok) in
     on_ok_weaker c.add_part.result (λ e. (c.in_ok-part.part, step, e ∙ settled-afresh c.args.self.now c.in_ok-part.part)) c.add_part.ensures.ok
 
 pub returns-clause-err : goal.returns-clause-err
@@ -40,4 +44,6 @@ pub returns-in_err-part-clause-err : goal.returns-in_err-part-clause-err
 returns-in_err-part-clause-err c =
     let p = err_from_is_err_and c.from_residual.result c.from_residual.ensures.1 in
     rw (p.1, p.2) (subst (λ (part : Part). IsMisfit (CanStandNext c.args.self.now.before part) (row_of c.args.cells.now) c.in_err-part.field-0.0)
-    c.replace-part.ensures.value c.in_err-part.ensures.err)
+    c.replace-part.ensures.value
+    (subst (λ (before : List (Record Global)). IsMisfit (CanStandNext before c.replace-part.result) (row_of c.args.cells.now) c.in_err-part.field-0.0)
+    c.stream.ensures c.in_err-part.ensures.err))
