@@ -40,7 +40,8 @@ abbrev FoundOf : Type 0 → Type 0
 FoundOf T = ℕ → Defined Global → List Naming → T
 
 -- nothing is known, so nothing is wrong
-pub none_current : {T : Type 0} (found_of : FoundOf T) (found : Findings T) (before : List (Record Global)) → NoneAreCurrent found → AreCurrent found_of found before
+pub none_current : {T : Type 0} (found_of : FoundOf T) (found : Findings T) (before : List (Record Global)) → NoneAreCurrent found
+    → AreCurrent found_of found before
 none_current found_of found before none = λ local p is flag. absurd (none local flag)
 
 -- that of one local message type is found anew, or no longer known, and that of the others stays
@@ -60,8 +61,8 @@ same-places e None = refl
 same-places e (Some s) = refl
 
 -- a data message changes no definition and no name
-pub after_message : {T : Type 0} (found_of : FoundOf T) (found : Findings T) (before : List (Record Global)) (v : Values Global) → AreCurrent found_of found before
-    → AreCurrent found_of found (Data v ∷ before)
+pub after_message : {T : Type 0} (found_of : FoundOf T) (found : Findings T) (before : List (Record Global)) (v : Values Global)
+    → AreCurrent found_of found before → AreCurrent found_of found (Data v ∷ before)
 after_message found_of found before v are = λ k p is. are k p (ap (λ places. get_or places k None) (sym (same-places (known before) _)) ∙ is)
 
 -- a definition takes the place of its local message type, of which nothing is known any more

@@ -3,7 +3,6 @@ pub mod AddedCells
 pub mod BeginFacts
 pub mod CellFacts
 pub mod CurrentFacts
-mod CutFacts
 mod DevFields
 pub mod DevKeyFacts
 pub mod HeardEvents

@@ -7,5 +7,4 @@ pub mod Minutes
 pub mod Sheets
 pub mod Octets
 pub mod Several
-pub mod Commas
 pub mod Laws

@@ -17,7 +17,7 @@ mod stamp;
 mod teller;
 pub mod words;
 
-pub use cut::{after_beginning, before_comma};
+pub use cut::after_beginning;
 pub use floats::{add_float, is_lone_float};
 pub use found::{Finding, Findings};
 pub use kept::Kept;

@@ -15,7 +15,8 @@ returns-in-Some-after_beginning-clause-text c =
     let rows = csv_text (data_rows c.args.before.now (message_in c.args.message.now)) in
     let written : c.put_values.new.text.items ≡ rows =
     c.in_ok-put_values.ensures.text ∙ ap (λ (t : List ℕ). t ++ rows) c.clear.ensures.items in
-    (rw c.in-Some-after_beginning.is at c.after_beginning.ensures.some) ∙ ap (λ (t : List ℕ). t ++ c.in-Some-after_beginning.left.now) (c.as_slice.ensures.value ∙ written)
+    let left = c.in-Some-after_beginning.left.now in
+    (rw c.in-Some-after_beginning.is at c.after_beginning.ensures.some) ∙ ap (λ (t : List ℕ). t ++ left) (c.as_slice.ensures.value ∙ written)
 
 pub returns-in-Some-after_beginning-clause-rows : goal.returns-in-Some-after_beginning-clause-rows
 returns-in-Some-after_beginning-clause-rows c =
