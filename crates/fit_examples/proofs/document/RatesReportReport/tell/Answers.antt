@@ -12,12 +12,12 @@ returns-clause-heard c = λ heard has all.
     let moments = moments_in c.in_ok-moment.moment in (
       next_stream self.stream self.some heard c.args.event.now moments has.0 has.1 c.in_ok-moment.ensures.moment c.moment_told.new.stream
           c.in_ok-moment.ensures.stream,
-      next_some self.stream self.some heard c.args.event.now moments has.0 has.1 c.in_ok-moment.ensures.moment c.in_ok-put_rate.field-0
-          c.in_ok-put_rate.ensures.some,
+      next_some self.stream self.some heard c.args.event.now moments has.0 has.1 c.in_ok-moment.ensures.moment c.in_ok-self.field-0
+          c.in_ok-self.ensures.some,
     )
 
 pub returns-clause-text : goal.returns-clause-text
 returns-clause-text c = λ heard has all.
     let self = c.args.self.now in
     next_line self.stream self.some heard c.args.event.now (moments_in c.in_ok-moment.moment) has.0 has.1 c.in_ok-moment.ensures.moment
-    c.args.text.now.items c.put_rate.new.text.items c.in_ok-put_rate.ensures.text
+    c.args.text.now.items c.put_rate.new.text.items c.in_ok-self.ensures.text
