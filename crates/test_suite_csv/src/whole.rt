@@ -38,7 +38,8 @@ fn after_message<'a>(
         None => assert!(rt; false),
     }
     let fields = values.fields.len() as u64;
-    assert!(rt; count == 1 + fields + values.dev.len() as u64);
+    let devs = values.dev.len() as u64;
+    assert!(rt; count == fields.saturating_add(devs).saturating_add(1));
     left
 }
 
