@@ -126,20 +126,20 @@ impl SpelledRecords {
             → self.new ≡ self.old ++ Data v ∷ []) }
         ensures err { OnErr result (self.new ≡ self.old) }
     {
-        let message = message_of(env, bytes);
+        let message = env.open(bytes);
         if self.too_long {
-            add_message(&mut self.records, &message);
+            message.add_to(&mut self.records);
             return Ok(());
         }
         let more = bytes.len();
         if more > MOST - self.bytes.len() {
             self.too_long = true;
-            add_message(&mut self.records, &message);
+            message.add_to(&mut self.records);
             return Ok(());
         }
         self.bytes.extend_from_slice(bytes)?;
         self.count += 1;
-        add_message(&mut self.records, &message);
+        message.add_to(&mut self.records);
         Ok(())
     }
 
@@ -164,27 +164,6 @@ impl SpelledRecords {
     {
         self.bytes.as_slice()
     }
-}
-
-/// The data message that the bytes are.
-fn message_of<'a>(env: &'a Env, bytes: &'a [u8]) -> MessageBytes<'a>
-    requires { (v : Values Global) × IsRecord env.now (Data v) bytes.now }
-    ensures read { (v : Values Global) → IsRecord env.now (Data v) bytes.now
-        → message_in result ≡ v }
-    ensures fits { Fits env.now (Data (message_in result)) }
-    ensures spelled { bytes.now ≡ record_bytes env.now (Data (message_in result)) }
-{
-    match env.message_bytes(bytes) {
-        Some(message) => message,
-        None => unreachable!(),
-    }
-}
-
-/// Puts a message in a history of records.
-fn add_message(records: &mut History<Record>, message: &MessageBytes<'_>)
-    ensures { records.new.items ≡ records.old.items ++ Data (message_in message.now) ∷ [] }
-{
-    records.add_from(message);
 }
 
 /// Makes bytes those of a record that fits where this is known. The only error is out of memory.

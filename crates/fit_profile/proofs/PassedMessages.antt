@@ -2,11 +2,11 @@
 use Rattle.fit_profile.proofs.Common.{◌≡◌, ◌∙◌, ℕ, List, [], ◌∷◌, length, false, refl, sym, ap, Option, Some, None, IsSomeAnd, unwrap_or}
 use Rattle.fit_profile.proofs.Common.{Defined, Environment, Record, Values, defined_at, described_by, last_after, option_and_then, tell}
 use Rattle.std.specs.Global.{Global}
-use Rattle.std.specs.Prelude.{option_map}
+use Rattle.std.specs.Prelude.{Bool, IfSome, option_map}
 use Rattle.fit_base.specs.Numbers.{IsBytes}
 use Rattle.fit_record.specs.Faults.{or_else}
 use Rattle.fit_record.specs.HeaderByte.{local_type}
-use Rattle.fit_record.specs.Records.{IsRecord, message_size, order_at}
+use Rattle.fit_record.specs.Records.{DataFits, IsRecord, message_size, order_at}
 use Rattle.fit_record.proofs.DataHeaders.{message_first}
 use Rattle.fit_record.proofs.FoundMessages.{data_read, data_record}
 use Rattle.fit_record.proofs.OneRecord.{one_record}
@@ -56,6 +56,12 @@ silent_nothing e v None here silent = absurd silent
 silent_nothing e v (Some p) here silent = describes-nothing e p v here silent.plain
 
 -- ---- a message that tells times alone
+
+-- it does where what it tells says no more
+pub alone_as_told : (o : Option (Defined Global)) (v : Values Global) (more : Bool) → IsSomeAnd o (DataFits v)
+    → IfSome o (λ p. more ≡ tells_more p.definition) → more ≡ false → IsSomeAnd o (λ p. tells_more p.definition ≡ false)
+alone_as_told None v more fits is none = absurd fits
+alone_as_told (Some p) v more fits is none = sym is ∙ none
 
 pub timed_last : (e : Environment Global) (last : Last) (v : Values Global) (o : Option (Defined Global)) (time : Option ℕ) → defined_at e v.local ≡ o
     → IsSomeAnd o (λ p. tells_more p.definition ≡ false) → time ≡ time_of e last.time (Data v)

@@ -9,7 +9,6 @@ ghost use Rattle.fit_record.specs.declared.message.Values.{Values};
 ghost use Rattle.fit_profile.specs.Described.{naming};
 ghost use Rattle.fit_profile.specs.inner.Keeps.{AreNamesAfter, AreSameNames, described};
 
-use crate::message_bytes::message_of;
 use crate::names::{Described, Names, Texts};
 use crate::text::text_in;
 use fit_record::{Description, Env, MessageBytes};
@@ -39,7 +38,7 @@ fn described_in(
         → option_map (λ x. x.1) o ≡ option_and_then (λ p. described p.definition v)
         (defined_at env.now v.local)) }
 {
-    let message = message_of(env, bytes);
+    let message = env.open(bytes);
     let Some(description) = message.description() else {
         return Ok(None);
     };

@@ -30,7 +30,7 @@ pub use fit_numbers::{
     write_fixed,
 };
 pub use message::{FieldView, Message};
-pub use message_bytes::Taken;
+pub use message_bytes::{Taken, Tells};
 pub use stream::Stream;
 pub use text::text_len;
 pub use told::Told;

@@ -37,19 +37,13 @@ pub struct Taken {
     pub told: Told,
 }
 
-/// The data message that the bytes are.
-pub(crate) fn message_of<'a>(env: &'a Env, bytes: &'a [u8]) -> MessageBytes<'a>
-    requires { (v : Values Global) × IsRecord env.now (Data v) bytes.now }
-    ensures read { (v : Values Global) → IsRecord env.now (Data v) bytes.now
-        → message_in result ≡ v }
-    ensures defined { defined_at env.now result.local ≡ Some result.defined.now }
-    ensures sound { IsSound result.defined.now }
-    ensures long { length result.body.now ≡ message_size result.defined.now }
-{
-    match env.message_bytes(bytes) {
-        Some(message) => message,
-        None => unreachable!(),
-    }
+/// What an opened data message tells of those after it.
+#[derive(Clone, Copy)]
+pub struct Tells {
+    /// Its time, in seconds since 1989-12-31T00:00:00 UTC.
+    pub time: Option<u32>,
+    /// Whether it may tell more: messages of its definition are field descriptions, or have counters.
+    pub more: bool,
 }
 
 /// The time of a message by the last time before it.
@@ -109,7 +103,7 @@ pub(crate) fn said_in(env: &Env, plans: &Plans, last: Last, bytes: &[u8]) -> Tak
         → defined_at env.now v.local ≡ Some p
         → IsTaken (telling.told_at last p.definition v) v p.definition result }
 {
-    let message = message_of(env, bytes);
+    let message = env.open(bytes);
     let plan = plan_of(plans, &message);
     let mut last = last;
     let mut taken = say_next(&mut last, plan, &message);
@@ -134,13 +128,6 @@ pub(crate) fn speed_and_distance(
 {
     let number = plan_of(plans, message).counters.distance_in(message.body);
     (speed(number), accumulated(DISTANCE, last.distance, number))
-}
-
-/// Puts a message in a history of records.
-fn add_message(records: &mut History<Record>, message: &MessageBytes<'_>)
-    ensures { records.new.items ≡ records.old.items ++ Data (message_in message.now) ∷ [] }
-{
-    records.add_from(message);
 }
 
 /// Puts the data message that the bytes are in a history of records.
@@ -261,14 +248,14 @@ pub(crate) fn take_telling(
     ensures describes { result ≡ None → (v : Values Global) → IsRecord env.now (Data v) bytes.now
         → IsSomeAnd (defined_at env.now v.local) (λ p. (p.definition.global == 206) ≡ true) }
 {
-    let message = message_of(env, bytes);
+    let message = env.open(bytes);
     let plan = plan_of(plans, &message);
     if describes(plan, &message) {
         return None;
     }
     let known = plan.has_lone_fields;
     let mut taken = say_next(last, plan, &message);
-    add_message(records, &message);
+    message.add_to(records);
     let lone = lone_fields(asks, known, plans, &message);
     taken.has_lone_fields = lone;
     Some(taken)

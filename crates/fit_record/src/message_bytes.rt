@@ -9,8 +9,9 @@ ghost use Rattle.fit_record.specs.Records.{IsRecord, message_size, sizes};
 ghost use Rattle.fit_record.specs.Sound.{IsSound};
 
 use crate::header::message_header;
-use crate::{Defined, Env, Layout, Values};
+use crate::{Defined, Env, Layout, Record, Values};
 use fit_base::{Bits, Code, Entries, Items, Order, bits_at, width_of};
+use fit_history::History;
 use std::alloc::{AllocError, Allocator, Global};
 
 /// A data message in its bytes, by the definition of its local message type.
@@ -54,6 +55,31 @@ impl<A: Allocator> Env<A> {
             defined,
             body,
         })
+    }
+
+    /// The data message that these bytes are: finds the definition by which it is read.
+    #[inline(always)]
+    pub fn open<'a>(&'a self, bytes: &'a [u8]) -> MessageBytes<'a, A>
+        requires { (v : Values A) × IsRecord self.now (Data v) bytes.now }
+        ensures read { (v : Values A) → IsRecord self.now (Data v) bytes.now → message_in result ≡ v }
+        ensures spelled { IsRecord self.now (Data (message_in result)) bytes.now }
+        ensures defined { defined_at self.now result.local ≡ Some result.defined.now }
+        ensures sound { IsSound result.defined.now }
+        ensures size { length result.body.now ≡ message_size result.defined.now }
+    {
+        match self.message_bytes(bytes) {
+            Some(message) => message,
+            None => unreachable!(),
+        }
+    }
+}
+
+impl<'a, A: Allocator> MessageBytes<'a, A> {
+    /// Puts the message in a history of records.
+    pub fn add_to(&self, records: &mut History<Record<A>>)
+        ensures { records.new.items ≡ records.old.items ++ Data (message_in self.now) ∷ [] }
+    {
+        records.add_from(self);
     }
 }
 

@@ -7,12 +7,11 @@ ghost use Rattle.fit_record.specs.declared.message.Values.{Values};
 ghost use Rattle.fit_record.specs.declared.message.Record.TheVariants.{Values as Data};
 ghost use Rattle.fit_names.specs.Values.{IsAmount};
 ghost use Rattle.fit_profile.specs.Looks.{known};
-ghost use Rattle.fit_profile.specs.Opened.{IsOpened};
-ghost use Rattle.fit_profile.specs.Times as times;
+ghost use Rattle.fit_profile.specs.Opened.{IsOpened, TellsNext};
 ghost use Rattle.fit_profile.specs.Told as telling;
 
 use super::Stream;
-use crate::message_bytes::{message_of, plan_of, speed_and_distance, time_of_message};
+use crate::message_bytes::{Tells, plan_of, speed_and_distance, time_of_message};
 use fit_names::in_scale;
 use fit_numbers::Fixed;
 use fit_record::MessageBytes;
@@ -26,16 +25,20 @@ impl Stream {
         ensures read { (v : Values Global) → IsRecord (known self.now) (Data v) bytes.now
             → message_in result ≡ v }
     {
-        message_of(&self.env, bytes)
+        self.env.open(bytes)
     }
 
-    /// The time of an opened data message, in seconds since 1989-12-31T00:00:00 UTC, as of `time`.
+    /// What an opened data message tells of those after it: its time, as of `time`, and whether it may tell more.
     #[inline(always)]
-    pub fn message_time(&self, message: &MessageBytes<'_>) -> Option<u32>
+    pub fn tells(&self, message: &MessageBytes<'_>) -> Tells
         requires { IsOpened self.now message.now }
-        ensures { result ≡ times.time self.now (Data (message_in message.now)) }
+        ensures { TellsNext self.now (message_in message.now) result }
     {
-        time_of_message(self.last.time, plan_of(&self.plans, message), message)
+        let plan = plan_of(&self.plans, message);
+        Tells {
+            time: time_of_message(self.last.time, plan, message),
+            more: plan.tells_more,
+        }
     }
 
     /// The speed in compressed_speed_distance in m/s and the distance accumulated from it in m, of an opened data message, as

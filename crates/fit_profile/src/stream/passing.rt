@@ -1,4 +1,4 @@
-//! Data messages that a stream takes in by their bytes, without a look at their fields.
+//! Data messages that a stream takes in by their bytes, without a look at their fields, or without another one.
 ghost use Rattle.std.specs.Prelude.{◌≡◌, ◌≢◌, ◌∷◌, false, IsOk, IsSomeAnd, IsTrue, OnErr, OnOk, Some};
 ghost use Rattle.std.specs.declared.alloc.Global.{Global};
 ghost use Rattle.fit_record.specs.Environment.{defined_at};
@@ -8,11 +8,11 @@ ghost use Rattle.fit_record.specs.declared.message.Values.{Values};
 ghost use Rattle.fit_record.specs.declared.message.Record.TheVariants.{Values as Data};
 ghost use Rattle.fit_profile.specs.Accumulated.{tells_more};
 ghost use Rattle.fit_profile.specs.Looks.{known};
-ghost use Rattle.fit_profile.specs.Times as times;
+ghost use Rattle.fit_profile.specs.Opened.{TellsNext};
 
 use super::Stream;
-use crate::by_header::{is_silent, tells_times};
-use crate::message_bytes::add_bytes;
+use crate::by_header::is_silent;
+use crate::message_bytes::{Tells, add_bytes};
 use crate::told::with_time;
 use std::alloc::AllocError;
 
@@ -36,12 +36,12 @@ impl Stream {
         true
     }
 
-    /// Takes the next record in, as `take_message` does, where it is the data message that these bytes are and has this time.
+    /// Takes the next record in, as `take_message` does, where it was opened before and tells this.
     #[inline(always)]
-    pub fn take_timed(&mut self, bytes: &[u8], time: Option<u32>) -> Result<(), AllocError>
+    pub fn take_opened(&mut self, bytes: &[u8], tells: Tells) -> Result<(), AllocError>
         requires record_ { (v : Values Global) × IsRecord (known self.old) (Data v) bytes.now }
-        requires time { (v : Values Global) → IsRecord (known self.old) (Data v) bytes.now
-            → time ≡ times.time self.old (Data v) }
+        requires tells { (v : Values Global) → IsRecord (known self.old) (Data v) bytes.now
+            → TellsNext self.old v tells }
         ensures ok { OnOk result ((v : Values Global)
             → IsRecord (known self.old) (Data v) bytes.now → self.new ≡ Data v ∷ self.old) }
         ensures err { OnErr result (self.new ≡ self.old) }
@@ -50,10 +50,10 @@ impl Stream {
             → defined_at (known self.old) v.local ≡ Some p → tells_more p.definition ≡ false
             → IsOk result }
     {
-        if !tells_times(&self.plans, bytes) {
+        if tells.more {
             return self.take_message(bytes);
         }
-        self.last = with_time(self.last, time);
+        self.last = with_time(self.last, tells.time);
         add_bytes(&self.env, &mut self.pushed, bytes);
         Ok(())
     }

@@ -1,9 +1,10 @@
-use Rattle.fit_profile.proofs.Common.{◌∙◌, refl, sym, ap, ap₂}
+use Rattle.fit_profile.proofs.Common.{◌≡◌, ◌∙◌, refl, sym, ap, ap₂, subst, false, IsSomeAnd, defined_at, known}
 use Rattle.fit_record.specs.declared.message.Record.TheVariants.{Values as Data}
+use Rattle.fit_profile.specs.Accumulated.{tells_more}
 use Rattle.fit_profile.specs.Times.{time, time_of}
 use Rattle.fit_profile.proofs.Kept.{kept-record, keeps-last, not-first}
-use Rattle.fit_profile.proofs.PassedMessages.{timed_last, timed_nothing}
-use Rattle.fit_profile.proofs.stream.Stream.take_timed.Goals as goal
+use Rattle.fit_profile.proofs.PassedMessages.{alone_as_told, timed_last, timed_nothing}
+use Rattle.fit_profile.proofs.stream.Stream.take_opened.Goals as goal
 
 pub add_bytes-requires : goal.add_bytes-requires
 add_bytes-requires c =
@@ -16,12 +17,15 @@ invariant_of-self c =
     let v = c.requires.record_.0 in
     let read = c.requires.record_.1 in
     let is = kept-record now (Data v) c.args.bytes.now c.self.invariant.0 c.self.view_is read in
-    let alone = c.tells_times.ensures c.if-not-tells_times.false s.env v c.self.invariant.1 is in
+    let told = c.requires.tells v read in
+    let alone = subst (λ e. IsSomeAnd (defined_at e v.local) (λ p. tells_more p.definition ≡ false))
+        (sym (c.self.invariant.0.env_is ∙ ap known c.self.view_is))
+        (alone_as_told (defined_at (known now) v.local) v c.args.tells.more read.0 told.more c.if-tells.false) in
     let nothing = timed_nothing s.env v _ refl alone in
-    let own = c.requires.time v read
+    let own = told.time
     ∙ sym (ap₂ (λ e l. time_of e l.time (Data v)) c.self.invariant.0.env_is c.self.invariant.0.last_is ∙ ap (λ xs. time xs (Data v)) c.self.view_is) in (
       keeps-last s.env s.last c.with_time-self-inside.result s.names s.pushed.items c.add_bytes.new.records.items now v c.self.invariant.0 c.self.view_is
-          read.0 nothing (c.with_time-self-inside.ensures ∙ timed_last s.env s.last v _ c.args.time refl alone own) (c.add_bytes.ensures v is),
+          read.0 nothing (c.with_time-self-inside.ensures ∙ timed_last s.env s.last v _ c.args.tells.time refl alone own) (c.add_bytes.ensures v is),
       c.self.invariant.1,
       not-first s.is_new s.pushed.items c.add_bytes.new.records.items now s.env (Data v) c.self.invariant.2 c.self.view_is read.0 nothing,
     )

@@ -1,6 +1,0 @@
-use Rattle.fit_record.specs.MessageBytes.{message_in}
-use Rattle.fit_record.specs.declared.message.Record.TheVariants.{Values as Data}
-use Rattle.fit_encode.proofs.spelled.add_message.Given as goal
-
-abbrev pub ghost-add_from : goal.ghost-add_from
-ghost-add_from a = Data (message_in a._source.now)
