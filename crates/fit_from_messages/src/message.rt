@@ -156,10 +156,8 @@ fn description_of(env: &Env, bytes: &[u8]) -> Option<Description>
     ensures { (v : Values Global) → IsRecord env.now (Data v) bytes.now
         → result ≡ described_by env.now v }
 {
-    match env.message_bytes(bytes) {
-        Some(message) => message.description(),
-        None => unreachable!(),
-    }
+    let message = env.open(bytes);
+    message.description()
 }
 
 /// Takes in the message that these bytes are. Out of memory, nothing changes.

@@ -74,9 +74,9 @@ impl<A: Allocator> Env<A> {
     }
 }
 
-impl<'a, A: Allocator> MessageBytes<'a, A> {
+impl MessageBytes<'_> {
     /// Puts the message in a history of records.
-    pub fn add_to(&self, records: &mut History<Record<A>>)
+    pub fn add_to(&self, records: &mut History<Record>)
         ensures { records.new.items ≡ records.old.items ++ Data (message_in self.now) ∷ [] }
     {
         records.add_from(self);

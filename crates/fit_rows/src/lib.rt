@@ -14,4 +14,4 @@ mod whole;
 
 pub use report::{CsvReport, ROWS_LINE};
 pub use stream::RowStream;
-pub use whole::MessageReader;
+pub use whole::{MessageReader, WholeMessage};

@@ -15,21 +15,14 @@ use std::alloc::{AllocError, Global};
 pub const ROWS_LINE: &[u8] = b"row,a,b,c,d,e,f\n";
 
 impl TextMaker for RowMaker {
-    ghost use Rattle.std.specs.Prelude.{false};
     ghost use Rattle.fit_rows.specs.EventTexts.{csv_line};
 
     type Found = Template;
 
     ghost line = { csv_line };
 
-    ghost asks_times = { false };
-
     fn new(alloc: Global) -> Self {
         RowMaker::new(alloc)
-    }
-
-    fn asks_times() -> bool {
-        false
     }
 
     fn tells_records_alone() -> bool {

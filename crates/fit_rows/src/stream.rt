@@ -5,9 +5,10 @@ ghost use Rattle.fit_record.specs.Records.{Fits, IsRecord};
 ghost use Rattle.fit_record.specs.declared.message.Record.TheVariants.{Values as Data};
 ghost use Rattle.fit_record.specs.declared.message.Values.{Values};
 ghost use Rattle.fit_profile.specs.Looks.{known};
+ghost use Rattle.fit_profile.specs.Opened.{TellsNext};
 
 use crate::template::Template;
-use fit_profile::Stream;
+use fit_profile::{Stream, Tells};
 use fit_record::Record;
 use fit_texts::Findings;
 use std::alloc::{AllocError, Global};
@@ -83,13 +84,14 @@ impl RowStream {
         self.stream.take(record_)
     }
 
-    /// Takes the next record, as `take` does, where it is the data message that these bytes are: no record is made.
-    pub fn take_message(&mut self, bytes: &[u8]) -> Result<(), AllocError>
-        requires { (v : Values Global) × IsRecord (known self.old) (Data v) bytes.now }
+    /// Takes the next record, as `take` does, where it is the data message that these bytes are and tells this: no record is made.
+    pub fn take_opened(&mut self, bytes: &[u8], tells: Tells) -> Result<(), AllocError>
+        requires { (v : Values Global) × IsRecord (known self.old) (Data v) bytes.now
+            × TellsNext self.old v tells }
         ensures ok { OnOk result ((v : Values Global)
             → IsRecord (known self.old) (Data v) bytes.now → self.new ≡ Data v ∷ self.old) }
         ensures err { OnErr result (self.new ≡ self.old) }
     {
-        self.stream.take_message(bytes)
+        self.stream.take_opened(bytes, tells)
     }
 }

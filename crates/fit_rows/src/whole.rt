@@ -1,6 +1,6 @@
 //! Records whose rows stand as `to_csv` writes them, taken whole: what a text shows is guessed, and the rows of the guess are compared
 //! with it.
-ghost use Rattle.std.specs.Prelude.{◌≡◌, ◌++◌, [], IfOk, IfSome, length};
+ghost use Rattle.std.specs.Prelude.{◌≡◌, ◌++◌, [], IfOk, IfSome};
 ghost use Rattle.std.specs.Global.{Global};
 ghost use Rattle.fit_record.specs.MessageBytes.{message_in};
 ghost use Rattle.fit_record.specs.declared.message.Record.TheVariants.{Values as Data};
@@ -9,7 +9,8 @@ ghost use Rattle.fit_record.specs.Records.{DefinitionFits, Fits, IsRecord};
 ghost use Rattle.fit_profile.specs.Looks.{known};
 ghost use Rattle.fit_profile.specs.Opened.{IsOpened};
 ghost use Rattle.fit_cells.specs.Rows.{csv_text};
-ghost use Rattle.fit_rows.specs.ChainRows.{data_rows, definition_rows, record_rows};
+ghost use Rattle.fit_rows.specs.ChainRows.{definition_rows, record_rows};
+ghost use Rattle.fit_rows.specs.WholeMessages.{IsWholeMessage};
 ghost use Rattle.fit_texts.specs.Current.{AreCurrent};
 ghost use Rattle.fit_texts.specs.MessageKeys.{key_of};
 
@@ -19,7 +20,7 @@ use crate::message::put_values;
 use crate::stream::RowStream;
 use crate::template::Template;
 use crate::template::likely::likely_short_number;
-use fit_profile::Stream;
+use fit_profile::{Stream, Tells};
 use fit_record::{MessageBytes, MessageDef, Record};
 use fit_texts::{Findings, after_beginning};
 use std::alloc::{AllocError, Global};
@@ -73,23 +74,31 @@ fn likely_message<'a>(
     template.likely(pen.alloc, written, &mut pen.value, order, bytes, text)
 }
 
-/// How many rows the opened data message has, and what is left of a text after them, where the text begins with its rows as `to_csv`
-/// writes them after the records of a stream.
-fn after_opened<'a>(
+/// A data message whose rows a text begins with, as `to_csv` writes them.
+#[derive(Drop)]
+pub struct WholeMessage<'a> {
+    /// How many rows it has.
+    pub rows: u64,
+    /// What it tells of those after it.
+    pub tells: Tells,
+    /// What is left of the text after its rows.
+    pub left: &'a [u8],
+}
+
+/// The data message that is opened after the records of a stream, where a text begins with its rows as `to_csv` writes them.
+fn opened_whole<'a>(
     tools: &mut RowTools,
     templates: &mut Findings<Template>,
     written: &mut Vec<u8>,
     before: &Stream,
     message: &MessageBytes<'_>,
     text: &'a [u8],
-) -> Result<Option<(u64, &'a [u8])>, AllocError>
+) -> Result<Option<WholeMessage<'a>>, AllocError>
     requires opened { IsOpened before.now message.now }
     requires current { AreCurrent key_of templates.old before.now }
     ensures current { AreCurrent key_of templates.new before.now }
-    ensures text { IfOk result (λ found. IfSome found (λ p. text.now
-        ≡ csv_text (data_rows before.now (message_in message.now)) ++ p.1.now)) }
-    ensures rows { IfOk result (λ found. IfSome found (λ p.
-        p.0 ≡ length (data_rows before.now (message_in message.now)))) }
+    ensures whole { IfOk result (λ found. IfSome found
+        (IsWholeMessage before.now (message_in message.now) text.now)) }
 {
     let local = message.local;
     templates.find(&mut tools.pen, before, local, message.defined)?;
@@ -98,30 +107,31 @@ fn after_opened<'a>(
     };
     written.clear();
     put_values(written, tools, template, before, message)?;
-    match after_beginning(text, written.as_slice()) {
-        Some(left) => Ok(Some((template.row_count(), left))),
-        None => Ok(None),
-    }
+    let Some(left) = after_beginning(text, written.as_slice()) else {
+        return Ok(None);
+    };
+    Ok(Some(WholeMessage {
+        rows: template.row_count(),
+        tells: before.tells(message),
+        left,
+    }))
 }
 
-/// How many rows the data message has that the bytes are after the records of a stream, and what is left of a text after them, where the
-/// bytes are one and the text begins with its rows as `to_csv` writes them.
-fn after_message<'a>(
+/// The data message that the bytes are after the records of a stream, where they are one and a text begins with its rows as `to_csv`
+/// writes them.
+fn whole_in<'a>(
     tools: &mut RowTools,
     templates: &mut Findings<Template>,
     written: &mut Vec<u8>,
     before: &Stream,
     bytes: &[u8],
     text: &'a [u8],
-) -> Result<Option<(u64, &'a [u8])>, AllocError>
+) -> Result<Option<WholeMessage<'a>>, AllocError>
     requires { AreCurrent key_of templates.old before.now }
     ensures current { AreCurrent key_of templates.new before.now }
-    ensures read { IfOk result (λ found. IfSome found (λ p. (v : Message Global)
+    ensures read { IfOk result (λ found. IfSome found (λ m. (v : Message Global)
         × IsRecord (known before.now) (Data v) bytes.now
-        × (text.now ≡ csv_text (data_rows before.now v) ++ p.1.now))) }
-    ensures rows { IfOk result (λ found. IfSome found (λ p. (v : Message Global)
-        → IsRecord (known before.now) (Data v) bytes.now
-        → p.0 ≡ length (data_rows before.now v))) }
+        × IsWholeMessage before.now v text.now m)) }
 {
     let Some(message) = before.env().message_bytes(bytes) else {
         return Ok(None);
@@ -130,7 +140,7 @@ fn after_message<'a>(
     if size != bytes.len() {
         return Ok(None);
     }
-    after_opened(tools, templates, written, before, &message, text)
+    opened_whole(tools, templates, written, before, &message, text)
 }
 
 /// Reads records from the rows that `to_csv` writes of them. What it keeps from one record to the next only saves time. Clauses see the
@@ -189,19 +199,16 @@ impl MessageReader {
         }
     }
 
-    /// How many rows the data message after the records of a stream has with whose rows a text begins, as `to_csv` writes them, and what is
-    /// left of the text: `bytes` has the message then. There may be one where `None` is returned. Memory that is refused is an error.
+    /// The data message after the records of a stream with whose rows a text begins, as `to_csv` writes them: `bytes` has the message
+    /// then. There may be one where `None` is returned. Memory that is refused is an error.
     pub fn whole_message<'a>(
         &mut self,
         before: &mut RowStream,
         text: &'a [u8],
-    ) -> Result<Option<(u64, &'a [u8])>, AllocError>
-        ensures read { IfOk result (λ found. IfSome found (λ p. (v : Message Global)
+    ) -> Result<Option<WholeMessage<'a>>, AllocError>
+        ensures read { IfOk result (λ found. IfSome found (λ m. (v : Message Global)
             × IsRecord (known before.old) (Data v) self.new
-            × (text.now ≡ csv_text (data_rows before.old v) ++ p.1.now))) }
-        ensures rows { IfOk result (λ found. IfSome found (λ p. (v : Message Global)
-            → IsRecord (known before.old) (Data v) self.new
-            → p.0 ≡ length (data_rows before.old v))) }
+            × IsWholeMessage before.old v text.now m)) }
         ensures unchanged { before.new ≡ before.old }
     {
         let bytes = &mut self.bytes;
@@ -213,7 +220,7 @@ impl MessageReader {
         if likely_message(tools, templates, written, bytes, stream, text).is_none() {
             return Ok(None);
         }
-        after_message(tools, templates, written, stream, bytes.as_slice(), text)
+        whole_in(tools, templates, written, stream, bytes.as_slice(), text)
     }
 
     /// The bytes of the data message that was read last.

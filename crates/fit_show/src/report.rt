@@ -10,14 +10,11 @@ use fit_texts::{Findings, Moment, SHEET_SIZE, TextMaker, TextReport, Times};
 use std::alloc::{AllocError, Global};
 
 impl TextMaker for LineMaker {
-    ghost use Rattle.std.specs.Prelude.{true};
     ghost use Rattle.fit_show.specs.ShowLines.{show_line};
 
     type Found = LineTemplate;
 
     ghost line = { show_line };
-
-    ghost asks_times = { true };
 
     fn new(alloc: Global) -> Self {
         LineMaker {
@@ -25,10 +22,6 @@ impl TextMaker for LineMaker {
             sheet: [0; SHEET_SIZE],
             times: Times::new(alloc),
         }
-    }
-
-    fn asks_times() -> bool {
-        true
     }
 
     fn tells_records_alone() -> bool {

@@ -10,24 +10,17 @@ use fit_texts::{Findings, Moment, TextMaker, TextReport};
 use std::alloc::{AllocError, Global};
 
 impl TextMaker for TableMaker {
-    ghost use Rattle.std.specs.Prelude.{true};
     ghost use Rattle.fit_table.specs.EventTexts.{table_text};
 
     type Found = Columns;
 
     ghost line = { table_text };
 
-    ghost asks_times = { true };
-
     fn new(alloc: Global) -> Self {
         TableMaker {
             alloc,
             rows: TableRowMaker::new(alloc),
         }
-    }
-
-    fn asks_times() -> bool {
-        true
     }
 
     fn tells_records_alone() -> bool {

@@ -1,5 +1,5 @@
 //! A reporter of texts that depend on few of the events before them.
-ghost use Rattle.std.specs.Prelude.{◌≡◌, ◌≢◌, ◌<◌, ◌^◌, ◌++◌, ◌∷◌, [], ℕ, Bool, List, IsSomeAnd, IsTrue, OnOk, true};
+ghost use Rattle.std.specs.Prelude.{◌≡◌, ◌≢◌, ◌<◌, ◌^◌, ◌++◌, ◌∷◌, [], ℕ, List, IsSomeAnd, IsTrue, OnOk};
 ghost use Rattle.std.specs.Global.{Global};
 ghost use Rattle.fit_chain.specs.Events.{Event as Told, file_end, header as begins, item};
 ghost use Rattle.fit_record.specs.Environment.{defined_at};
@@ -25,8 +25,7 @@ use fit_report::Report;
 use std::alloc::{AllocError, Global};
 use std::marker::Model;
 
-/// When a data message came: in which file, counted from 1, and its time in seconds since 1989-12-31T00:00:00 UTC, where it has one and
-/// is asked for it.
+/// When a data message came: in which file, counted from 1, and its time in seconds since 1989-12-31T00:00:00 UTC, where it has one.
 #[derive(Clone, Copy)]
 pub struct Moment {
     pub file: u64,
@@ -41,15 +40,8 @@ pub trait TextMaker: Drop {
     // The text of an event after these events, the latest first.
     ghost line: { List (Told Global) → Told Global → List ℕ };
 
-    // Whether it asks for the times of data messages.
-    ghost asks_times: { Bool };
-
     /// It has made no text.
     fn new(alloc: Global) -> Self;
-
-    /// Whether it asks for the times of data messages: else they aren't found out for it.
-    fn asks_times() -> bool
-        ensures { result ≡ asks_times };
 
     /// Whether only record messages have a text, of all data messages.
     fn tells_records_alone() -> bool
@@ -93,8 +85,7 @@ pub trait TextMaker: Drop {
         moment: Moment,
     ) -> Result<(), AllocError>
         requires opened { IsOpened stream.now message.now }
-        requires time { asks_times ≡ true
-            → moment.time ≡ times.time stream.now (Data (message_in message.now)) }
+        requires time { moment.time ≡ times.time stream.now (Data (message_in message.now)) }
         requires current { AreCurrent Self.Found.found_of found.old stream.now }
         ensures text { OnOk result ((heard : List (Told Global))
             → stream.now ≡ latest_records heard → moment.file ≡ files_heard heard

@@ -1,21 +1,18 @@
 //! What is kept of the events that a report has heard, and the texts of the next ones.
-ghost use Rattle.std.specs.Prelude.{◌≡◌, ◌<◌, ◌^◌, ◌++◌, ◌∷◌, [], ℕ, List, IsTrue, OnErr, OnOk, false, true};
+ghost use Rattle.std.specs.Prelude.{◌≡◌, ◌<◌, ◌^◌, ◌++◌, ◌∷◌, [], ℕ, List, IsTrue, OnOk, false};
 ghost use Rattle.std.specs.Global.{Global};
 ghost use Rattle.fit_chain.specs.Events.{Event as Told, file_end, header as begins, item};
-ghost use Rattle.fit_record.specs.MessageBytes.{message_in};
 ghost use Rattle.fit_record.specs.declared.message.Record.TheVariants.{Define, Values as Data};
 ghost use Rattle.fit_record.specs.declared.message.Values.{Values};
 ghost use Rattle.fit_record.specs.Records.{Fits, IsRecord};
 ghost use Rattle.fit_profile.specs.Looks.{known};
-ghost use Rattle.fit_profile.specs.Opened.{IsOpened};
-ghost use Rattle.fit_profile.specs.Times as times;
 ghost use Rattle.fit_texts.specs.KeptEvents.{kept_events};
 
 use crate::found::Findings;
 use crate::report::{Moment, TextMaker};
 use fit_frame::Header;
 use fit_profile::Stream;
-use fit_record::{MessageBytes, MessageDef, Record};
+use fit_record::{MessageDef, Record};
 use std::alloc::{AllocError, Global};
 use std::marker::Model;
 
@@ -123,14 +120,14 @@ impl<M: TextMaker> Teller<M> {
             → text.new.items ≡ text.old.items ++ M.line heard (item (Data v))) }
     {
         let message = self.stream.open(bytes);
-        let time = time_of::<M>(&self.stream, &message);
+        let tells = self.stream.tells(&message);
         let file = self.files;
+        let time = tells.time;
         let moment = Moment { file, time };
         let found = &mut self.found;
         self.maker
             .put_message(text, found, &self.stream, &message, moment)?;
-        take_in::<M>(&mut self.stream, bytes, time)?;
-        Ok(())
+        self.stream.take_opened(bytes, tells)
     }
 
     /// Takes in the data message that the bytes are, and puts its text.
@@ -163,41 +160,4 @@ impl<M: TextMaker> Teller<M> {
     {
         self.maker.put_end(text)
     }
-}
-
-/// The time of a data message that is opened after the records of a stream, where this maker asks for it.
-#[inline(always)]
-fn time_of<M: TextMaker>(stream: &Stream, message: &MessageBytes<'_>) -> Option<u32>
-    requires { IsOpened stream.now message.now }
-    ensures { M.asks_times ≡ true
-        → result ≡ times.time stream.now (Data (message_in message.now)) }
-{
-    if !M::asks_times() {
-        return None;
-    }
-    stream.message_time(message)
-}
-
-/// Takes in the data message that the bytes are, with this time where this maker has asked for it.
-#[inline(always)]
-fn take_in<M: TextMaker>(
-    stream: &mut Stream,
-    bytes: &[u8],
-    time: Option<u32>,
-) -> Result<(), AllocError>
-    requires record_ { (v : Values Global) × IsRecord (known stream.old) (Data v) bytes.now }
-    requires time { M.asks_times ≡ true → (v : Values Global)
-        → IsRecord (known stream.old) (Data v) bytes.now
-        → time ≡ times.time stream.old (Data v) }
-    ensures ok { OnOk result ((v : Values Global)
-        → IsRecord (known stream.old) (Data v) bytes.now → stream.new ≡ Data v ∷ stream.old) }
-    ensures err { OnErr result (stream.new ≡ stream.old) }
-{
-    if M::asks_times() {
-        return stream.take_timed(bytes, time);
-    }
-    if stream.pass_message(bytes) {
-        return Ok(());
-    }
-    stream.take_message(bytes)
 }

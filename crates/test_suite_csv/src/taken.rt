@@ -24,12 +24,20 @@ fn is_message(env: &Env, bytes: &[u8]) -> bool
     }
 }
 
-/// Takes in the data message that the bytes are, and asserts its time.
-pub(crate) fn take(rt: &impl Abort, stream: &mut Stream, bytes: &[u8], time: Option<u32>) {
+/// Takes in the data message that the bytes are, and asserts what it tells: its time, and whether it may tell more.
+pub(crate) fn take_telling(
+    rt: &impl Abort,
+    stream: &mut Stream,
+    bytes: &[u8],
+    time: Option<u32>,
+    more: bool,
+) {
     if is_message(stream.env(), bytes) {
         let message = stream.open(bytes);
-        equal(rt, &stream.message_time(&message), &time);
-        stream.take_message(bytes).expect(rt, "memory");
+        let tells = stream.tells(&message);
+        equal(rt, &tells.time, &time);
+        equal(rt, &tells.more, &more);
+        stream.take_opened(bytes, tells).expect(rt, "memory");
         return;
     }
     assert!(rt; false);
@@ -42,15 +50,16 @@ fn messages_with_a_time(rt: HostRuntime) {
     let mut stream = Stream::new(alloc);
     push_definition(&rt, alloc, &mut stream, 1, Order::Big, RECORD, &fields);
     push_definition(&rt, alloc, &mut stream, 2, Order::Big, RECORD, &[]);
-    take(&rt, &mut stream, &[0xC2], None);
-    take(
+    take_telling(&rt, &mut stream, &[0xC2], None, false);
+    take_telling(
         &rt,
         &mut stream,
         &[0x01, 0x3B, 0x9A, 0xCA, 0x1F],
         Some(1_000_000_031),
+        false,
     );
     equal(&rt, &stream.header_time(2), &Some(1_000_000_034));
-    take(&rt, &mut stream, &[0xC2], Some(1_000_000_034));
+    take_telling(&rt, &mut stream, &[0xC2], Some(1_000_000_034), false);
     equal(&rt, &stream.header_time(1), &Some(1_000_000_065));
 }
 
@@ -60,7 +69,7 @@ fn messages_that_count(rt: HostRuntime) {
     let fields = [FieldDef::new(COMPRESSED_SPEED_DISTANCE, 3, BYTE)];
     let mut stream = Stream::new(alloc);
     push_definition(&rt, alloc, &mut stream, 0, Order::Little, RECORD, &fields);
-    take(&rt, &mut stream, &[0x00, 0x64, 0, 0x10], None);
+    take_telling(&rt, &mut stream, &[0x00, 0x64, 0, 0x10], None, true);
     // The counter has wrapped.
     push_distance(&rt, alloc, &mut stream, &[0x64, 0, 0], Some(2_560_000));
 }
@@ -150,7 +159,13 @@ fn a_description(rt: HostRuntime) {
     let alloc = rt.alloc();
     let mut stream = Stream::new(alloc);
     push_descriptions(&rt, alloc, &mut stream);
-    take(&rt, &mut stream, &[0x00, 0, 5, 132, 0x6D, 0x6F, 0], None);
+    take_telling(
+        &rt,
+        &mut stream,
+        &[0x00, 0, 5, 132, 0x6D, 0x6F, 0],
+        None,
+        true,
+    );
     push_dev_definition(&rt, alloc, &mut stream);
     equal(&rt, &stream.dev_name(1, 0), &Some("mo"));
 }

@@ -29,18 +29,18 @@ fn after_message<'a>(
     text: &'a [u8],
 ) -> &'a [u8] {
     let read = reader.whole_message(before, text).expect(rt, "memory");
-    let (count, left) = read.expect(rt, "a message");
+    let message = read.expect(rt, "a message");
     match before.stream().env().message_bytes(reader.bytes()) {
-        Some(message) => {
-            let found = message.values(alloc).expect(rt, "memory");
+        Some(opened) => {
+            let found = opened.values(alloc).expect(rt, "memory");
             assert!(rt; found == *values);
         }
         None => assert!(rt; false),
     }
     let fields = values.fields.len() as u64;
     let devs = values.dev.len() as u64;
-    assert!(rt; count == fields.saturating_add(devs).saturating_add(1));
-    left
+    assert!(rt; message.rows == fields.saturating_add(devs).saturating_add(1));
+    message.left
 }
 
 /// Asserts that a text begins with the rows of a definition message, and returns what comes after them.

@@ -54,11 +54,11 @@ fn take_message<'a>(
         FileTakesRows text.now p.1.now p.0 file.old file.new)) }
     ensures same { IfOk result (λ found. IsNone found → file.new ≡ file.old) }
 {
-    let Some((count, left)) = reader.whole_message(&mut file.before, text)? else {
+    let Some(message) = reader.whole_message(&mut file.before, text)? else {
         return Ok(None);
     };
-    file.add_message(reader.bytes())?;
-    Ok(Some((count, left)))
+    file.add_message(reader.bytes(), message.tells)?;
+    Ok(Some((message.rows, message.left)))
 }
 
 /// Takes the record with whose rows a text begins into a file. Within a record it takes none.

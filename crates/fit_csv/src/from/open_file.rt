@@ -5,6 +5,7 @@ ghost use Rattle.fit_record.specs.declared.message.Record.TheVariants.{Values as
 ghost use Rattle.fit_record.specs.declared.message.Values.{Values as Message};
 ghost use Rattle.fit_record.specs.Records.{Fits, IsRecord};
 ghost use Rattle.fit_profile.specs.Looks.{known};
+ghost use Rattle.fit_profile.specs.Opened.{TellsNext};
 ghost use Rattle.fit_csv.specs.declared.from.open_file.Part.{Part};
 ghost use Rattle.fit_csv.specs.inner.Misfits.{IsMisfit};
 ghost use Rattle.fit_csv.specs.inner.Progress.{CanStandNext, FileStep, FitsOnceWhole, PartHasRoom, PartStep, settled, with_record};
@@ -20,7 +21,7 @@ use crate::from::open_message::{is_whole_message, take_message_row};
 use fit_base::Entries;
 use fit_encode::SpelledRecords;
 use fit_frame::Header;
-use fit_profile::Stream;
+use fit_profile::{Stream, Tells};
 use fit_record::{Record, Values};
 use fit_rows::RowStream;
 use std::alloc::Global;
@@ -148,11 +149,12 @@ impl OpenFile {
         self.add(&r)
     }
 
-    /// A data message is whole, which these bytes are.
-    pub(crate) fn add_message(&mut self, bytes: &[u8]) -> Result<(), Misfit>
+    /// A data message is whole, which these bytes are, and tells this of those after it.
+    pub(crate) fn add_message(&mut self, bytes: &[u8], tells: Tells) -> Result<(), Misfit>
         requires same_records { self.old.before ≡ reverse self.old.records }
         requires message { (v : Message Global)
-            × IsRecord (known self.old.before) (Data v) bytes.now }
+            × IsRecord (known self.old.before) (Data v) bytes.now
+            × TellsNext self.old.before v tells }
         ensures ok { OnOk result ((v : Message Global)
             → IsRecord (known self.old.before) (Data v) bytes.now
             → self.new ≡ with_record self.old (Data v)) }
@@ -161,7 +163,7 @@ impl OpenFile {
         self.part = Part::Nothing;
         self.records
             .push_message(self.before.stream().env(), bytes)?;
-        self.before.take_message(bytes)?;
+        self.before.take_opened(bytes, tells)?;
         Ok(())
     }
 

@@ -39,9 +39,8 @@ impl Stream {
     /// Takes the next record in, as `take_message` does, where it was opened before and tells this.
     #[inline(always)]
     pub fn take_opened(&mut self, bytes: &[u8], tells: Tells) -> Result<(), AllocError>
-        requires record_ { (v : Values Global) × IsRecord (known self.old) (Data v) bytes.now }
-        requires tells { (v : Values Global) → IsRecord (known self.old) (Data v) bytes.now
-            → TellsNext self.old v tells }
+        requires { (v : Values Global) × IsRecord (known self.old) (Data v) bytes.now
+            × TellsNext self.old v tells }
         ensures ok { OnOk result ((v : Values Global)
             → IsRecord (known self.old) (Data v) bytes.now → self.new ≡ Data v ∷ self.old) }
         ensures err { OnErr result (self.new ≡ self.old) }

@@ -8,16 +8,16 @@ use Rattle.fit_profile.proofs.stream.Stream.take_opened.Goals as goal
 
 pub add_bytes-requires : goal.add_bytes-requires
 add_bytes-requires c =
-    (c.requires.record_.0, kept-record c.args.self.now (Data c.requires.record_.0) c.args.bytes.now c.self.invariant.0 c.self.view_is c.requires.record_.1)
+    (c.requires.0, kept-record c.args.self.now (Data c.requires.0) c.args.bytes.now c.self.invariant.0 c.self.view_is c.requires.1)
 
 pub invariant_of-self : goal.invariant_of-self
 invariant_of-self c =
     let s = c.self.inside in
     let now = c.args.self.now in
-    let v = c.requires.record_.0 in
-    let read = c.requires.record_.1 in
+    let v = c.requires.0 in
+    let read = c.requires.1 in
     let is = kept-record now (Data v) c.args.bytes.now c.self.invariant.0 c.self.view_is read in
-    let told = c.requires.tells v read in
+    let told = c.requires.2 in
     let alone = subst (λ e. IsSomeAnd (defined_at e v.local) (λ p. tells_more p.definition ≡ false))
         (sym (c.self.invariant.0.env_is ∙ ap known c.self.view_is))
         (alone_as_told (defined_at (known now) v.local) v c.args.tells.more read.0 told.more c.if-tells.false) in

@@ -3,4 +3,4 @@ use Rattle.fit_record.specs.declared.message.Record.TheVariants.{Values as Data}
 use Rattle.fit_record.proofs.message_bytes.MessageBytes.add_to.Given as goal
 
 abbrev pub ghost-add_from : goal.ghost-add_from
-ghost-add_from g a = Data (message_in a._source.now)
+ghost-add_from a = Data (message_in a._source.now)

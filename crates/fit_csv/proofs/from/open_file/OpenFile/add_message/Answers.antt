@@ -17,12 +17,12 @@ pub returns-clause-ok : goal.returns-clause-ok
 returns-clause-ok c v is = λ i. record {
   header = c.args.self.now.header;
   records = c.in_ok-push_message.ensures.ok v (subst (λ e. IsRecord e (Data v) c.args.bytes.now) (sym (c.env.ensures ∙ ap known c.stream.ensures)) is) i;
-  before = c.in_ok-take_message.ensures.ok v is i;
+  before = c.in_ok-take_opened.ensures.ok v is i;
   part = Nothing;
 }
 
 pub returns-in_err-push_message-clause-ok : goal.returns-in_err-push_message-clause-ok
 returns-in_err-push_message-clause-ok c = IfOk-from_err c.from_residual.result _ c.from_residual.ensures.0
 
-pub returns-in_err-take_message-clause-ok : goal.returns-in_err-take_message-clause-ok
-returns-in_err-take_message-clause-ok c = IfOk-from_err c.from_residual-in_err-take_message.result _ c.from_residual-in_err-take_message.ensures.0
+pub returns-in_err-take_opened-clause-ok : goal.returns-in_err-take_opened-clause-ok
+returns-in_err-take_opened-clause-ok c = IfOk-from_err c.from_residual-in_err-take_opened.result _ c.from_residual-in_err-take_opened.ensures.0
