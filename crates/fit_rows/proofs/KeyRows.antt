@@ -7,7 +7,7 @@ use Rattle.fit_rows.proofs.Common.{FrameKey, dev_frame_key, dev_keys, field_key,
 use Rattle.fit_rows.proofs.Common.{value_rows}
 use Rattle.std.proofs.Common.{ℕ, List, Option, Some, option_map, unwrap_or}
 use Rattle.std.specs.Prelude.{Vec}
-use Rattle.fit_frames.proofs.FieldWalks.{field_slot}
+use Rattle.fit_shown.proofs.FieldWalks.{field_slot}
 
 -- ---- codes and sizes
 

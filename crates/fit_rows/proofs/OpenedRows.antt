@@ -5,8 +5,8 @@ use Rattle.fit_rows.proofs.Common.{HasItems, MessageKey}
 use Rattle.std.proofs.Common.{ℕ, List, Option}
 use Rattle.std.proofs.lemmas.Slice.Zip.{length-zip}
 use Rattle.std.proofs.lemmas.List.{append-nil}
-use Rattle.fit_frames.proofs.FieldWalks.{field_slot}
-use Rattle.fit_frames.specs.declared.items.ItemBytes.{ItemBytes}
+use Rattle.fit_shown.proofs.FieldWalks.{field_slot}
+use Rattle.fit_shown.specs.declared.items.ItemBytes.{ItemBytes}
 use Rattle.fit_profile.proofs.KnownFacts.{codes-long}
 use Rattle.fit_profile.specs.Opened.{IsOpened}
 use Rattle.fit_record.specs.MessageBytes.{message_in}

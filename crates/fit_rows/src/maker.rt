@@ -1,6 +1,6 @@
 //! What is kept from one row to the next.
 use crate::definition::again::DefinitionRows;
-use fit_frames::Pen;
+use fit_shown::Pen;
 use fit_texts::{SHEET_SIZE, Sheet, Times};
 use std::alloc::Global;
 

@@ -9,7 +9,7 @@ ghost use Rattle.fit_texts.specs.MessageKeys.{key_of, message_key};
 
 use crate::maker::RowTools;
 use crate::template::Template;
-use fit_frames::ItemBytes;
+use fit_shown::ItemBytes;
 use fit_profile::Stream;
 use fit_record::MessageBytes;
 use fit_texts::Findings;

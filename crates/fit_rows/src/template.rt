@@ -8,7 +8,7 @@ ghost use Rattle.fit_cells.specs.Rows.{HasRows, csv_text};
 ghost use Rattle.fit_texts.specs.Words as words;
 ghost use Rattle.fit_rows.specs.ChainRows as rows;
 ghost use Rattle.fit_texts.specs.InstantText.{instant_text};
-ghost use Rattle.fit_frames.specs.Frames.{HasFields, HasItems, TakesFields};
+ghost use Rattle.fit_shown.specs.Frames.{HasFields, HasItems, TakesFields};
 ghost use Rattle.fit_rows.specs.inner.FrameKeys.{dev_frame_key, end_of, field_key, frame_keys, frame_slots, frame_text, frames_of, key_rows, tail_text, values_text};
 ghost use Rattle.fit_texts.specs.MessageKeys.{message_key};
 ghost use Rattle.fit_texts.specs.Sheets.{and_sheet};
@@ -19,7 +19,7 @@ pub(crate) mod likely;
 
 use crate::maker::RowTools;
 use crate::template::first_row::first_row;
-use fit_frames::{Frame, ItemBytes, Pen, put_tail};
+use fit_shown::{Frame, ItemBytes, Pen, put_tail};
 use fit_profile::{Stream, field_info, field_label, write_fixed};
 use fit_record::{Defined, FieldDef};
 use fit_texts::words::unit_text;
@@ -200,7 +200,7 @@ impl Model for Template {
     ghost use Rattle.fit_rows.specs.ChainRows.{row};
     ghost use Rattle.fit_profile.specs.Names.{message_label};
     ghost use Rattle.fit_rows.specs.inner.FrameKeys.{end_of, frame_keys, frames_of};
-    ghost use Rattle.fit_frames.specs.Frames.{two_cells};
+    ghost use Rattle.fit_shown.specs.Frames.{two_cells};
     ghost use Rattle.fit_texts.specs.MessageKeys.{MessageKey};
 
     ghost Value = { MessageKey };

@@ -27,9 +27,9 @@ pub use Rattle.fit_texts.specs.KeptEvents.{files_heard}
 pub use Rattle.fit_texts.specs.InstantText.{instant_text}
 pub use Rattle.fit_show.specs.ShowLines.{header_line, record_line, show_line, show_lines, listed, message_line, separator, shown_part, shown_dev, shown_field}
 pub use Rattle.fit_show.specs.ShowLines.{joined, message_front, shown_devs, shown_fields, time_part, unit_part}
-pub use Rattle.fit_frames.specs.Shown.{shown_cell}
+pub use Rattle.fit_shown.specs.Shown.{shown_cell}
 unfoldable pub use Rattle.fit_show.specs.ShowLines.{record_lines, show_files}
-pub use Rattle.fit_frames.specs.Frames.{HasFields, HasItems, TakesFields}
+pub use Rattle.fit_shown.specs.Frames.{HasFields, HasItems, TakesFields}
 pub use Rattle.fit_texts.specs.MessageKeys.{DevKey, MessageKey, dev_keys, message_key}
 pub use Rattle.fit_texts.specs.Sheets.{and_sheet}
 pub use Rattle.fit_show.specs.inner.Showing.{ShownKey, first_head, key_text, keys_text, line_front, shown_key, shown_keys, PartKey, dev_field_part}

@@ -11,7 +11,7 @@ use Rattle.std.proofs.Common.{◌<◌, ℕ, List}
 use Rattle.std.proofs.Math.Seq.{drop-append_seam}
 use Rattle.std.specs.Prelude.{codes, decimal, option_map, unwrap_or, Option, Some, ◌==◌, if◌then◌else◌}
 use Rattle.std.proofs.lemmas.List.{append-nil, length-append, length-drop}
-use Rattle.fit_frames.proofs.FieldWalks.{KnowsItems}
+use Rattle.fit_shown.proofs.FieldWalks.{KnowsItems}
 use Rattle.fit_texts.proofs.NamingFacts.{namings_long}
 
 -- ---- fields one after another

@@ -24,7 +24,7 @@ use Rattle.fit_cells.specs.Cells.{cell}
 use Rattle.fit_texts.specs.Words.{sum_word, order_word, unit_text, dev_label}
 use Rattle.fit_texts.specs.KeptEvents.{files_heard}
 use Rattle.fit_texts.specs.InstantText.{instant_text}
-use Rattle.fit_frames.specs.Shown.{shown_cell}
+use Rattle.fit_shown.specs.Shown.{shown_cell}
 
 -- words one after another
 abbrev pub joined : List (List ℕ) → List ℕ

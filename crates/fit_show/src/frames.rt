@@ -2,12 +2,12 @@
 ghost use Rattle.std.specs.Prelude.{◌≡◌, ◌≤◌, ◌<◌, ◌+◌, ◌++◌, ◌∷◌, [], if◌then◌else◌, IfOk, IfSome, OnOk, codes, length, map, option_map};
 ghost use Rattle.fit_profile.specs.Names.{meaning};
 ghost use Rattle.fit_numbers.specs.Scaled.{IsScale};
-ghost use Rattle.fit_frames.specs.Frames.{HasFields, HasItems, TakesField};
+ghost use Rattle.fit_shown.specs.Frames.{HasFields, HasItems, TakesField};
 ghost use Rattle.fit_texts.specs.Sheets.{and_sheet};
 ghost use Rattle.fit_show.specs.inner.Showing.{dev_field_part, field_part, first_head, key_text, shown_keys, spaced};
 
 use crate::fields::{put_name, put_words, separator};
-use fit_frames::{ItemBytes, ShownCell};
+use fit_shown::{ItemBytes, ShownCell};
 use fit_profile::{Info, field_info, field_label};
 use fit_record::FieldDef;
 use fit_texts::words::unit_text;

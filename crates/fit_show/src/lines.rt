@@ -12,7 +12,7 @@ ghost use Rattle.fit_texts.specs.MessageKeys.{key_of};
 use crate::fields::put_words;
 use crate::template::{LineMaker, LineTemplate};
 use fit_frame::Header;
-use fit_frames::ItemBytes;
+use fit_shown::ItemBytes;
 use fit_profile::{Stream, message_label};
 use fit_record::{MessageBytes, MessageDef};
 use fit_texts::Findings;

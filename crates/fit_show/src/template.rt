@@ -4,14 +4,14 @@ ghost use Rattle.fit_record.specs.Environment.{defined_at};
 ghost use Rattle.fit_record.specs.Sound.{IsSound};
 ghost use Rattle.fit_profile.specs.Looks.{known};
 ghost use Rattle.fit_show.specs.ShowLines as lines;
-ghost use Rattle.fit_frames.specs.Frames.{HasFields, HasItems, TakesFields};
+ghost use Rattle.fit_shown.specs.Frames.{HasFields, HasItems, TakesFields};
 ghost use Rattle.fit_show.specs.inner.Showing.{dev_field_part, field_part, first_head, keys_text, line_front, line_slots, line_text, shown_keys};
 ghost use Rattle.fit_texts.specs.MessageKeys.{message_key};
 ghost use Rattle.fit_texts.specs.Sheets.{and_sheet};
 
 use crate::fields::put_words;
 use crate::frames::{ShownField, push_devs, put_dev_head, put_head, shown_fields};
-use fit_frames::ItemBytes;
+use fit_shown::ItemBytes;
 use fit_profile::{Stream, message_label};
 use fit_record::{Defined, FieldDef};
 use fit_texts::{Finding, KeptDev, KeptMessage, Sheet, Stamp, Times, WIDE, put_sheet};
@@ -55,33 +55,17 @@ fn put_fields(
     put_sheet(text, sheet, at)
 }
 
-/// What a message without a time begins with.
-fn front(alloc: Global, local: u8, global: u16) -> Result<Stamp, AllocError>
-    ensures { IfOk result (λ s. s ≡ line_front local global) }
-{
-    let mut text = Vec::with_capacity(alloc, WIDE)?;
-    put_front(&mut text, local, global)?;
-    Stamp::new(text)
-}
-
-/// What stands before the time of the others.
-fn timed_front(alloc: Global, local: u8, global: u16) -> Result<Stamp, AllocError>
-    ensures { IfOk result (λ s. s ≡ line_front local global ++ codes " ") }
-{
-    let mut text = Vec::with_capacity(alloc, WIDE)?;
-    put_front(&mut text, local, global)?;
-    text.push(b' ')?;
-    Stamp::new(text)
-}
-
-/// What a message without a time begins with, and what stands before the time of the others.
+/// What a message without a time begins with, and what stands before the time of the others: that and a space.
 fn fronts(alloc: Global, local: u8, global: u16) -> Result<(Stamp, Stamp), AllocError>
     ensures front { IfOk result (λ s. s.0 ≡ line_front local global) }
     ensures timed { IfOk result (λ s. s.1 ≡ line_front local global ++ codes " ") }
 {
-    let front = front(alloc, local, global)?;
-    let timed = timed_front(alloc, local, global)?;
-    Ok((front, timed))
+    let mut front = Vec::with_capacity(alloc, WIDE)?;
+    put_front(&mut front, local, global)?;
+    let mut timed = Vec::with_capacity(alloc, WIDE)?;
+    timed.extend_from_slice(front.as_slice())?;
+    timed.push(b' ')?;
+    Ok((Stamp::new(front)?, Stamp::new(timed)?))
 }
 
 /// What stands before the first cell: that of the first field, or this end where there is none.

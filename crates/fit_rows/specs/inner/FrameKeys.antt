@@ -11,7 +11,7 @@ use Rattle.fit_texts.specs.Words.{optional_number, unit_text}
 use Rattle.fit_rows.specs.ChainRows.{row}
 use Rattle.fit_texts.specs.InstantText.{instant_text}
 use Rattle.fit_texts.specs.MessageKeys.{DevKey, MessageKey}
-use Rattle.fit_frames.specs.Frames.{two_cells, FrameText}
+use Rattle.fit_shown.specs.Frames.{two_cells, FrameText}
 
 -- The row of a value: its kind, the name and the unit of the value, and by which base type code, size in bytes and scale the value is read.
 pub record FrameKey : Type 0 where

@@ -6,7 +6,7 @@ ghost use Rattle.fit_profile.specs.Looks.{known};
 ghost use Rattle.fit_texts.specs.MessageKeys.{message_key};
 
 use crate::template::Template;
-use fit_frames::Pen;
+use fit_shown::Pen;
 use fit_profile::Stream;
 use fit_record::Defined;
 use fit_texts::Finding;

@@ -1,12 +1,12 @@
 //! The first row of a message, and its parts.
 ghost use Rattle.std.specs.Prelude.{◌≡◌, ◌++◌, ◌∷◌, [], IfOk, OnOk, codes, decimal};
 ghost use Rattle.fit_cells.specs.Rows.{HasRows, csv_text};
-ghost use Rattle.fit_frames.specs.Frames.{two_cells};
+ghost use Rattle.fit_shown.specs.Frames.{two_cells};
 ghost use Rattle.fit_profile.specs.Names.{message_label};
 ghost use Rattle.fit_rows.specs.ChainRows as rows;
 
 use fit_cells::RowWriter;
-use fit_frames::{Pen, put_two};
+use fit_shown::{Pen, put_two};
 use fit_profile::message_label;
 use fit_texts::{Stamp, WIDE};
 use itoa::Buffer;

@@ -6,7 +6,7 @@ use Rattle.fit_profile.specs.Profile.{Meaning}
 use Rattle.fit_profile.specs.Names.{field, field_label, message_label}
 use Rattle.fit_texts.specs.Words.{unit_text}
 use Rattle.fit_show.specs.ShowLines.{joined, listed, message_front, separator, shown_part}
-use Rattle.fit_frames.specs.Shown.{shown_cell}
+use Rattle.fit_shown.specs.Shown.{shown_cell}
 use Rattle.fit_texts.specs.MessageKeys.{DevKey, MessageKey, TemplateKey}
 
 -- ---- what stands around the values in the line of a message

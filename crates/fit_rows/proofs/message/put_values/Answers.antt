@@ -1,5 +1,5 @@
 use Rattle.fit_rows.proofs.Common.{[], refl, sym, subst, on_ok_weaker, frame_slots, HasFields, HasItems, HasRows, MessageKey, TakesFields, key_rows}
-use Rattle.fit_frames.specs.declared.items.ItemBytes.{ItemBytes}
+use Rattle.fit_shown.specs.declared.items.ItemBytes.{ItemBytes}
 use Rattle.fit_rows.proofs.OpenedRows.{all_items, opened_items, opened_rows}
 use Rattle.fit_rows.proofs.message.put_values.Goals as goal
 

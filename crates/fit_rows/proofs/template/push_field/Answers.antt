@@ -1,7 +1,7 @@
 use Rattle.fit_rows.proofs.Common.{◌≡◌, ◌∙◌, ◌++◌, ◌∷◌, [], ap, ap₂, on_ok_weaker, field_key, frame_text}
 use Rattle.std.specs.Prelude.{codes}
 use Rattle.fit_texts.specs.Words.{unit_text}
-use Rattle.fit_frames.specs.Frames.{two_cells}
+use Rattle.fit_shown.specs.Frames.{two_cells}
 use Rattle.fit_rows.proofs.template.push_field.Goals as goal
 
 pub returns-clause-frames : goal.returns-clause-frames

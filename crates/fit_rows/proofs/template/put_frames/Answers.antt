@@ -1,5 +1,5 @@
 use Rattle.fit_rows.proofs.Common.{◌∙◌, refl, HasItems, and_sheet, on_ok_weaker, values_text}
-use Rattle.fit_frames.proofs.FieldWalks.{slot, taken_all, taken_more, taken_next, taken_none}
+use Rattle.fit_shown.proofs.FieldWalks.{slot, taken_all, taken_more, taken_next, taken_none}
 use Rattle.fit_rows.proofs.ValueRows.{value_after, value_more}
 use Rattle.fit_rows.proofs.template.put_frames.Goals as goal
 

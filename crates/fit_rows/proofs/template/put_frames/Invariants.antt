@@ -1,5 +1,5 @@
 use Rattle.fit_rows.proofs.Common.{◌≤◌, HasItems, and_sheet, values_text}
-use Rattle.fit_frames.proofs.FieldWalks.{Taken, slot}
+use Rattle.fit_shown.proofs.FieldWalks.{Taken, slot}
 use Rattle.fit_rows.proofs.template.put_frames.Given as goal
 
 abbrev pub invariant-loop-frame : goal.invariant-loop-frame

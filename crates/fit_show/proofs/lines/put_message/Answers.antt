@@ -3,8 +3,8 @@ use Rattle.fit_show.proofs.Common.{message_key}
 use Rattle.std.proofs.lemmas.Option.{same_Some}
 use Rattle.fit_record.specs.MessageBytes.{message_in}
 use Rattle.fit_record.specs.Records.{sizes}
-use Rattle.fit_frames.proofs.FieldWalks.{field_slot}
-use Rattle.fit_frames.specs.declared.items.ItemBytes.{ItemBytes}
+use Rattle.fit_shown.proofs.FieldWalks.{field_slot}
+use Rattle.fit_shown.specs.declared.items.ItemBytes.{ItemBytes}
 use Rattle.fit_texts.proofs.ItemFacts.{fields_both, fields_long}
 use Rattle.fit_show.proofs.ShownLines.{line_items, line_put}
 use Rattle.fit_show.proofs.lines.put_message.Goals as goal

@@ -1,6 +1,6 @@
 use Rattle.fit_show.proofs.Common.{◌∙◌, [], refl, sym, HasItems, and_sheet, keys_text, on_ok_weaker}
 use Rattle.std.proofs.lemmas.List.{append-nil}
-use Rattle.fit_frames.proofs.FieldWalks.{taken_all, taken_more, taken_next, taken_none}
+use Rattle.fit_shown.proofs.FieldWalks.{taken_all, taken_more, taken_next, taken_none}
 use Rattle.fit_show.proofs.ShownLines.{key_after, key_more, key_slot}
 use Rattle.fit_show.proofs.template.put_fields.Goals as goal
 

@@ -1,5 +1,5 @@
 use Rattle.fit_show.proofs.Common.{◌+◌, ◌≤◌, HasItems, and_sheet, keys_text}
-use Rattle.fit_frames.proofs.FieldWalks.{Taken}
+use Rattle.fit_shown.proofs.FieldWalks.{Taken}
 use Rattle.fit_show.proofs.ShownLines.{key_slot}
 use Rattle.fit_show.proofs.template.put_fields.Given as goal
 

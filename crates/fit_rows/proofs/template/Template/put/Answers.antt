@@ -3,7 +3,7 @@ use Rattle.fit_rows.proofs.Common.{HasItems, MessageKey, end_of, frame_keys, fra
 use Rattle.fit_rows.proofs.Common.{message_label, instant_text}
 use Rattle.std.proofs.Common.{ℕ, List, codes, decimal}
 use Rattle.std.specs.Prelude.{option_map, unwrap_or}
-use Rattle.fit_frames.proofs.FieldWalks.{slot}
+use Rattle.fit_shown.proofs.FieldWalks.{slot}
 use Rattle.fit_rows.proofs.ValueRows.{values_rows}
 use Rattle.fit_rows.proofs.FramedRows.{frames_shape}
 use Rattle.fit_texts.proofs.Sheets.{rows_after}

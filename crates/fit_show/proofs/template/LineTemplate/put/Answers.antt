@@ -2,7 +2,7 @@ use Rattle.fit_show.proofs.Common.{◌≤◌, ◌∙◌, ◌++◌, length, lengt
 use Rattle.fit_show.proofs.Common.{HasItems, MessageKey, and_sheet, keys_text, line_front, line_head, line_keys, time_part}
 use Rattle.std.proofs.Common.{◌+◌, ℕ, List}
 use Rattle.std.proofs.lemmas.List.{length-append}
-use Rattle.fit_frames.proofs.FieldWalks.{field_slot}
+use Rattle.fit_shown.proofs.FieldWalks.{field_slot}
 use Rattle.fit_show.proofs.ShownLines.{dev_slot, key_slot, line_parts, shown_slots}
 use Rattle.fit_show.proofs.template.LineTemplate.put.Goals as goal
 

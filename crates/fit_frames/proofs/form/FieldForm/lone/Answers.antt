@@ -1,4 +1,0 @@
-use Rattle.fit_frames.proofs.form.FieldForm.lone.Goals as goal
-
-pub returns-in-Lone-clause-width : goal.returns-in-Lone-clause-width
-returns-in-Lone-clause-width c = c.requires.lone c.in-Lone.is

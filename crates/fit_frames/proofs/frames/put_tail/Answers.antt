@@ -1,5 +1,0 @@
-use Rattle.std.proofs.Common.{rules}
-use Rattle.fit_frames.proofs.frames.put_tail.Goals as goal
-
-pub returns : goal.returns
-returns c = search rules

@@ -1,0 +1,5 @@
+use Rattle.std.proofs.Common.{rules}
+use Rattle.fit_shown.proofs.frames.Frame.new.Goals as goal
+
+pub returns : goal.returns
+returns c = search rules
