@@ -21,7 +21,7 @@ use Rattle.std.proofs.GlobalToken.{dealloc_token-Testable}
 use Rattle.std.specs.contracts.impls.GlobalAllocator.TheImpl.{ghosts}
 use Rattle.std_alloc.specs.Box.Ownership.{box_owns}
 use Rattle.fit_stream.specs.Streams.{StreamNow}
-use Rattle.fit_stream.specs.contracts.stream.Stream as held
+use Rattle.fit_stream.specs.contracts.stream.ChainStream as held
 use Rattle.fit_c.specs.inner.Handles.{holds, the_heap}
 use Rattle.fit_c.specs.contracts.handle.FitStream as handle
 

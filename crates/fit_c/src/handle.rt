@@ -3,7 +3,7 @@ ghost use Rattle.std.specs.Prelude.{◌≡◌, MatchOption, None, Option, Some};
 ghost use Rattle.fit_stream.specs.Streams.{StreamNow};
 
 use crate::loose::Loose;
-use fit_stream::Stream;
+use fit_stream::ChainStream;
 use std::alloc::Global;
 use std::marker::Model;
 use std::mem;
@@ -32,14 +32,14 @@ impl FitStream {
         FitStream { at: null_mut() }
     }
 
-    fn of(loose: Loose<Stream, Global>) -> FitStream
+    fn of(loose: Loose<ChainStream, Global>) -> FitStream
         ensures { result.value ≡ Some loose.value }
     {
         let Loose { at, alloc: _ } = loose;
         FitStream { at: at as *mut u8 }
     }
 
-    fn into_loose(self, alloc: Global) -> Option<Loose<Stream, Global>>
+    fn into_loose(self, alloc: Global) -> Option<Loose<ChainStream, Global>>
         ensures { MatchOption result (self.value ≡ None) (λ l. self.value ≡ Some l.value) }
     {
         let FitStream { at } = self;
@@ -47,14 +47,14 @@ impl FitStream {
             None
         } else {
             Some(Loose {
-                at: at as *mut Stream,
+                at: at as *mut ChainStream,
                 alloc,
             })
         }
     }
 
     /// Takes the stream, and leaves none.
-    pub(crate) fn take(&mut self, alloc: Global) -> Option<Box<Stream>>
+    pub(crate) fn take(&mut self, alloc: Global) -> Option<Box<ChainStream>>
         ensures old { MatchOption result (self.old.value ≡ None)
             (λ b. self.old.value ≡ Some b.value) }
         ensures new { self.new.value ≡ None }
@@ -66,7 +66,7 @@ impl FitStream {
     }
 
     /// Puts a stream in the place of the one before, which it frees.
-    pub(crate) fn put(&mut self, alloc: Global, stream: Box<Stream>)
+    pub(crate) fn put(&mut self, alloc: Global, stream: Box<ChainStream>)
         ensures { self.new.value ≡ Some stream.value }
     {
         let old = mem::replace(self, FitStream::of(Loose::of(stream)));

@@ -13,7 +13,7 @@ use crate::FitAnswer;
 use crate::answer::{answer_for_report, plain};
 use crate::handle::FitStream;
 use fit_report::ReportFault;
-use fit_stream::{Kind, Stream};
+use fit_stream::{Kind, ChainStream};
 use std::alloc::Global;
 
 /// The kind of a number.
@@ -43,43 +43,43 @@ fn answer_for_stream(answered: Result<u64, ReportFault>) -> FitAnswer
 
 /// Makes a stream of a kind, and keeps it in a box.
 #[inline(always)]
-fn boxed(alloc: Global, kind: Kind) -> Option<Box<Stream>>
+fn boxed(alloc: Global, kind: Kind) -> Option<Box<ChainStream>>
     ensures { IfSome result (λ b. b.value ≡ begun kind) }
 {
-    let stream = Stream::new(alloc, kind)?;
+    let stream = ChainStream::new(alloc, kind)?;
     Box::new(alloc, stream).ok()
 }
 
 #[inline(never)]
-fn boxed_check(alloc: Global) -> Option<Box<Stream>>
+fn boxed_check(alloc: Global) -> Option<Box<ChainStream>>
     ensures { IfSome result (λ b. b.value ≡ begun kinds.Check) }
 {
     boxed(alloc, Kind::Check)
 }
 
 #[inline(never)]
-fn boxed_show(alloc: Global) -> Option<Box<Stream>>
+fn boxed_show(alloc: Global) -> Option<Box<ChainStream>>
     ensures { IfSome result (λ b. b.value ≡ begun kinds.Show) }
 {
     boxed(alloc, Kind::Show)
 }
 
 #[inline(never)]
-fn boxed_table(alloc: Global) -> Option<Box<Stream>>
+fn boxed_table(alloc: Global) -> Option<Box<ChainStream>>
     ensures { IfSome result (λ b. b.value ≡ begun kinds.Table) }
 {
     boxed(alloc, Kind::Table)
 }
 
 #[inline(never)]
-fn boxed_rows(alloc: Global) -> Option<Box<Stream>>
+fn boxed_rows(alloc: Global) -> Option<Box<ChainStream>>
     ensures { IfSome result (λ b. b.value ≡ begun kinds.Rows) }
 {
     boxed(alloc, Kind::Rows)
 }
 
 #[inline(never)]
-fn boxed_messages(alloc: Global) -> Option<Box<Stream>>
+fn boxed_messages(alloc: Global) -> Option<Box<ChainStream>>
     ensures { IfSome result (λ b. b.value ≡ begun kinds.Messages) }
 {
     boxed(alloc, Kind::Messages)
@@ -87,7 +87,7 @@ fn boxed_messages(alloc: Global) -> Option<Box<Stream>>
 
 /// Makes a stream of a kind, and keeps it in a box. It takes the stack of that kind alone: a stream has some kilobytes, and is copied on
 /// its way into the box.
-fn made(alloc: Global, kind: Kind) -> Option<Box<Stream>>
+fn made(alloc: Global, kind: Kind) -> Option<Box<ChainStream>>
     ensures { IfSome result (λ b. b.value ≡ begun kind) }
 {
     match kind {

@@ -24,7 +24,7 @@ use std::alloc::AllocError;
 
 /// What the record header of a message says.
 #[derive(Clone, Copy)]
-struct Front {
+struct MessageFront {
     local: u8,
     offset: Option<u8>,
 }
@@ -43,7 +43,7 @@ fn offset_in(block: &[u8]) -> Option<u8>
 
 /// Reads the record header of a message's block.
 #[inline(always)]
-fn read_front(block: &[u8]) -> Result<Front, Misfit>
+fn read_front(block: &[u8]) -> Result<MessageFront, Misfit>
     requires { 24 ≤ length block.now }
     ensures local { IfOk result (λ front. front.local ≡ byte_at 6 block.now) }
     ensures offset { IfOk result (λ front. front.offset ≡ parts.offset_in block.now) }
@@ -61,7 +61,7 @@ fn read_front(block: &[u8]) -> Result<Front, Misfit>
     if block[7] >= 32 && block[7] != 0xFF {
         return Err(Misfit::Block(BlockReason::Offset));
     }
-    Ok(Front {
+    Ok(MessageFront {
         local,
         offset: offset_in(block),
     })
@@ -69,7 +69,7 @@ fn read_front(block: &[u8]) -> Result<Front, Misfit>
 
 /// The record header of a message.
 #[inline(always)]
-fn record_header(front: Front) -> u8
+fn record_header(front: MessageFront) -> u8
     requires { DataHeaderFits front.local front.offset }
     ensures { result ≡ data_header front.local front.offset }
 {
@@ -95,7 +95,7 @@ fn make_room(bytes: &mut Vec<u8>, size: usize) -> Result<(), AllocError>
 #[inline(always)]
 fn write_message(
     bytes: &mut [u8],
-    front: Front,
+    front: MessageFront,
     order: Order,
     block: &[u8],
     slots: &[Slot],

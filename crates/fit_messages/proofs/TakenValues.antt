@@ -16,13 +16,13 @@ use Rattle.fit_profile.specs.Looks.{known}
 use Rattle.fit_profile.specs.Taken.{IsTaken}
 use Rattle.fit_profile.specs.Told.{told}
 use Rattle.fit_profile.specs.declared.message_bytes.Taken.{Taken}
-use Rattle.fit_messages.specs.declared.bytes.Place.{Place}
+use Rattle.fit_messages.specs.declared.bytes.EventPlace.{EventPlace}
 use Rattle.fit_messages.specs.declared.message.Head.{Head}
 use Rattle.fit_messages.specs.inner.Heads.{IsHeadOf}
 use Rattle.fit_messages.proofs.MessageFacts.{placed, read_again}
 
 -- what stands before its items
-abbrev pub head_of : Place → ℕ → Taken → Head
+abbrev pub head_of : EventPlace → ℕ → Taken → Head
 head_of place number t = record { place = place; number = number; local = t.local; offset = t.offset; counts = t.may_count; told = t.told }
 
 -- It is of this definition, which the stream has before it and after it.
@@ -50,6 +50,6 @@ is_of before stream v t piece size are within is taken says =
       },
     )
 
-pub is_head : (before : List (Record Global)) (v : Values Global) (p : Defined Global) (place : Place) (number : ℕ) (t : Taken)
+pub is_head : (before : List (Record Global)) (v : Values Global) (p : Defined Global) (place : EventPlace) (number : ℕ) (t : Taken)
     → IsTaken (told before v) v p.definition t → IsHeadOf before v p (head_of place number t)
 is_head before v p place number t said = record { local = said.local; offset = said.offset; counts = said.counts; told = said.told }

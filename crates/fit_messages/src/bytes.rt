@@ -7,7 +7,7 @@ use std::alloc::AllocError;
 
 /// Where an event stands.
 #[derive(Clone, Copy)]
-pub(crate) struct Place {
+pub(crate) struct EventPlace {
     /// Which file it is of.
     pub file: u64,
     /// How many bytes come before it.
@@ -16,7 +16,7 @@ pub(crate) struct Place {
 
 /// What stands in a block after its length.
 #[derive(Clone, Copy)]
-pub(crate) struct Front {
+pub(crate) struct BlockFront {
     pub kind: u8,
     /// Three bytes by the kind.
     pub a: u8,
@@ -78,7 +78,7 @@ pub(crate) fn put_text(bytes: &mut Vec<u8>, text: &str) -> Result<(), AllocError
 
 /// Puts what comes after the length of a block.
 #[inline(always)]
-pub(crate) fn put_front(bytes: &mut Vec<u8>, front: Front) -> Result<(), AllocError>
+pub(crate) fn put_front(bytes: &mut Vec<u8>, front: BlockFront) -> Result<(), AllocError>
     ensures { OnOk result (bytes.new.items ≡ bytes.old.items ++ blocks.front
         front.kind front.a front.b front.c front.file front.n front.place) }
 {

@@ -9,7 +9,7 @@ ghost use Rattle.fit_record.specs.Sound.{IsSound};
 ghost use Rattle.fit_messages.specs.Blocks as blocks;
 ghost use Rattle.fit_messages.specs.inner.Columns.{dev_columns, said};
 
-use crate::bytes::{Front, Place, put_front, put_number, put_sized, put_text};
+use crate::bytes::{BlockFront, EventPlace, put_front, put_number, put_sized, put_text};
 use fit_base::{Class, Code, Entries, Order, width_of};
 use fit_profile::{Stream, decimals_of, field_info, message_name};
 use fit_record::{Defined, DevDef, FieldDef, MessageDef};
@@ -290,7 +290,7 @@ fn put_head(
     bytes: &mut Vec<u8>,
     definition: &MessageDef,
     counts: bool,
-    place: Place,
+    place: EventPlace,
     number: u64,
     length: u64,
 ) -> Result<(), AllocError>
@@ -302,7 +302,7 @@ fn put_head(
 {
     put_front(
         bytes,
-        Front {
+        BlockFront {
             kind: 2,
             a: definition.local,
             b: architecture(definition.order),
@@ -351,7 +351,7 @@ pub(crate) fn put_definition(
     alloc: Global,
     stream: &Stream,
     defined: &Defined,
-    place: Place,
+    place: EventPlace,
     number: u64,
 ) -> Result<(), AllocError>
     requires place { defined_at (known stream.now) defined.now.definition.local

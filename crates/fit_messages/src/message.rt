@@ -12,7 +12,7 @@ ghost use Rattle.fit_messages.specs.Blocks.{slot};
 ghost use Rattle.fit_messages.specs.inner.Heads.{TellsTimesAlone, head_bytes, opening_bytes};
 ghost use Rattle.fit_messages.specs.inner.Sheets.{IsQuick, slots_from, with_sheet};
 
-use crate::bytes::{Front, Place};
+use crate::bytes::{BlockFront, EventPlace};
 use crate::items::{add_all_read, write_lone};
 use crate::sheet::{SHEET, Sheet, put_block, write_front, write_low};
 use fit_profile::{Stream, Told};
@@ -22,7 +22,7 @@ use std::alloc::AllocError;
 /// What stands before the items of a message after the length of its block.
 #[derive(Clone, Copy)]
 pub(crate) struct Head {
-    pub place: Place,
+    pub place: EventPlace,
     /// Which definition of all it is of.
     pub number: u64,
     /// The local message type.
@@ -88,7 +88,7 @@ fn write_opening(sheet: &mut Sheet, head: Head, bits: u8) -> usize
 {
     let at = write_front(
         sheet,
-        Front {
+        BlockFront {
             kind: 3,
             a: bits,
             b: head.local,

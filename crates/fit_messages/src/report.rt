@@ -13,7 +13,7 @@ ghost use Rattle.fit_messages.specs.Blocks as blocks;
 ghost use Rattle.fit_messages.specs.Kept.{kept_heard};
 ghost use Rattle.fit_messages.specs.inner.Telling.{block_next, kept_next};
 
-use crate::bytes::{Front, Place, put_front, put_number, put_rounded, put_sized};
+use crate::bytes::{BlockFront, EventPlace, put_front, put_number, put_rounded, put_sized};
 use crate::definition::put_definition;
 use crate::message::{Head, number_at, put_message};
 use crate::sheet::{SHEET, Sheet};
@@ -97,7 +97,7 @@ fn sum_kind(sum: HeaderSum) -> u8
 fn put_header(
     text: &mut Vec<u8>,
     rest: &mut Vec<u8>,
-    place: Place,
+    place: EventPlace,
     header: &Header,
     size: u32,
 ) -> Result<(), AllocError>
@@ -107,7 +107,7 @@ fn put_header(
     rest.clear();
     put_front(
         rest,
-        Front {
+        BlockFront {
             kind: 1,
             a: header.size,
             b: header.protocol,
@@ -123,14 +123,14 @@ fn put_header(
 }
 
 /// Puts the block of the end of a file.
-fn put_end(text: &mut Vec<u8>, rest: &mut Vec<u8>, place: Place) -> Result<(), AllocError>
+fn put_end(text: &mut Vec<u8>, rest: &mut Vec<u8>, place: EventPlace) -> Result<(), AllocError>
     ensures { OnOk result (text.new.items ≡ text.old.items
         ++ blocks.end_block place.file place.place) }
 {
     rest.clear();
     put_front(
         rest,
-        Front {
+        BlockFront {
             kind: 4,
             a: 0,
             b: 0,
@@ -160,7 +160,7 @@ fn put_taken(
     alloc: Global,
     stream: &Stream,
     local: u8,
-    place: Place,
+    place: EventPlace,
     number: u64,
 ) -> Result<(), AllocError>
     requires { (p : Defined Global) × (defined_at (known stream.now) local ≡ Some p)
@@ -206,11 +206,11 @@ impl MessagesReport {
     }
 
     /// Where the next event stands.
-    fn here(&self) -> Place
+    fn here(&self) -> EventPlace
         ensures file { result.file ≡ self.now.files }
         ensures place { result.place ≡ self.now.place }
     {
-        Place {
+        EventPlace {
             file: self.files,
             place: self.place,
         }

@@ -4,7 +4,7 @@ ghost use Rattle.std.specs.Prelude.{◌≡◌, ◌≤◌, ◌+◌, ◌++◌, ◌
 ghost use Rattle.fit_messages.specs.Blocks as blocks;
 ghost use Rattle.fit_messages.specs.inner.Sheets.{with_sheet};
 
-use crate::bytes::{Front, eight_bytes, put_block_of_bytes};
+use crate::bytes::{BlockFront, eight_bytes, put_block_of_bytes};
 use std::alloc::AllocError;
 use std::simd::Simd;
 
@@ -60,7 +60,7 @@ pub(crate) fn write_low(sheet: &mut Sheet, at: usize, width: u8, number: u64) ->
 
 /// Writes what a block has after its length.
 #[inline(always)]
-pub(crate) fn write_front(sheet: &mut Sheet, front: Front) -> usize
+pub(crate) fn write_front(sheet: &mut Sheet, front: BlockFront) -> usize
     ensures end { result ≡ 24 }
     ensures text { take result sheet.new ≡ take 4 sheet.old ++ blocks.front
         front.kind front.a front.b front.c front.file front.n front.place }

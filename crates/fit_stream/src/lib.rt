@@ -8,4 +8,4 @@ mod silent;
 mod stream;
 
 pub use kind::Kind;
-pub use stream::Stream;
+pub use stream::ChainStream;

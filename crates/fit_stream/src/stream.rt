@@ -27,18 +27,18 @@ pub(crate) enum Lanes {
 /// Checks a chain of FIT files whose bytes come in pieces of any length, and hands out the text that each piece completes.
 ///
 /// Clauses see the kind, and what has flowed through: the bytes fed, all text handed out, and the fault, if there was one.
-pub struct Stream {
+pub struct ChainStream {
     lanes: Lanes,
 }
 
 // A call wherever a stream is dropped.
-impl Drop for Stream {
+impl Drop for ChainStream {
     fn drop(self) {
-        let Stream { lanes: _lanes } = self;
+        let ChainStream { lanes: _lanes } = self;
     }
 }
 
-impl Model for Stream {
+impl Model for ChainStream {
     ghost use Rattle.fit_stream.specs.Streams.{StreamNow};
 
     ghost Value = { StreamNow };
@@ -50,7 +50,7 @@ impl Model for Stream {
     ghost invariant = { λ s. BeginsSo s.lanes };
 }
 
-impl Stream {
+impl ChainStream {
     /// Nothing was fed, and nothing handed out. `None` where memory is refused.
     #[inline(always)]
     pub fn new(alloc: Global, kind: Kind) -> Option<Self>
@@ -66,7 +66,7 @@ impl Stream {
             Kind::Rows => Lanes::Rows(Lane::new(alloc, CsvReport::new(alloc), ROWS_LINE)?),
             Kind::Messages => Lanes::Messages(Lane::new(alloc, MessagesReport::new(alloc), b"")?),
         };
-        Some(Stream { lanes })
+        Some(ChainStream { lanes })
     }
 
     /// Feeds a piece, and hands out the text of what it completes, with the first line where nothing was handed out before. Returns

@@ -61,22 +61,22 @@ impl Spot {
 
 /// Where the first item of a field stands, and how it is shown.
 #[derive(Clone, Copy)]
-pub(crate) struct Place {
+pub(crate) struct FieldPlace {
     pub spot: Spot,
     pub form: NumberForm,
     pub kind: Kind,
 }
 
-impl Place {
+impl FieldPlace {
     /// This place with the form of a kind, which is its own.
     #[inline(always)]
-    pub(crate) fn of_kind(&self, kind: Kind) -> Place
+    pub(crate) fn of_kind(&self, kind: Kind) -> FieldPlace
         requires known { IsOfKind self.now.kind self.now.spot.field.code self.now.form }
         requires same { self.now.kind ≡ kind }
         requires some { kind ≡ Other → ⊥ }
         ensures { result ≡ self.now }
     {
-        Place {
+        FieldPlace {
             spot: self.spot,
             form: kind.form(),
             kind,
@@ -87,7 +87,7 @@ impl Place {
 /// Where the number of the first field of a number stands.
 #[derive(Clone, Copy)]
 pub(crate) enum Column {
-    At(Place),
+    At(FieldPlace),
     /// No field has the number, or the first one that has it holds none.
     Absent,
     /// The form of the items isn't known, as of numbers of eight bytes.
@@ -147,13 +147,13 @@ fn spot_of(fields: &[FieldDef], number: u8) -> Option<Spot>
 }
 
 /// The place of a field of record messages, where the form of its items is known, as of numbers of at most four bytes.
-fn place_of(spot: Spot, usual: Kind) -> Option<Place>
+fn place_of(spot: Spot, usual: Kind) -> Option<FieldPlace>
     ensures { IfSome result (λ p. (p.spot ≡ spot) × IsKnown p) }
 {
     let code = Code(spot.field.code);
     let info = field_info(RECORD, spot.field.number)?;
     let form = number_form(code, Some(info))?;
-    Some(Place {
+    Some(FieldPlace {
         spot,
         form,
         kind: Kind::of(usual, spot.field.code, form),

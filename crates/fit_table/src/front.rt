@@ -17,7 +17,7 @@ const FRONT_ROOM: usize = 80;
 
 /// The file and the minute of a row, and what its text begins with, where that is short.
 #[derive(Drop)]
-pub(crate) struct Front {
+pub(crate) struct RowFront {
     /// The number of the file.
     file: u64,
     /// How many minutes after 1989-12-31T00:00:00 UTC.
@@ -26,7 +26,7 @@ pub(crate) struct Front {
     text: Stamp,
 }
 
-impl Model for Front {
+impl Model for RowFront {
     ghost use Rattle.std.specs.Prelude.{◌≤◌, ℕ, length};
     ghost use Rattle.fit_table.specs.inner.Fronts.{IsFront};
 
@@ -37,9 +37,9 @@ impl Model for Front {
     ghost invariant = { λ f. IsFront f.file f.minute f.text × (length f.text ≤ 32) };
 }
 
-impl Front {
+impl RowFront {
     /// That of the rows of a file with times of the minute of this time, where it is short.
-    fn of(alloc: Global, file: u64, time: u32) -> Result<Option<Front>, AllocError>
+    fn of(alloc: Global, file: u64, time: u32) -> Result<Option<RowFront>, AllocError>
         requires { 4_473_924 < time / 60 }
         ensures { IfOk result (λ f. IfSome f (λ f. f ≡ (file, time / 60))) }
     {
@@ -50,7 +50,7 @@ impl Front {
         if text.len() > SHORT {
             return Ok(None);
         }
-        Ok(Some(Front {
+        Ok(Some(RowFront {
             file,
             minute: time / 60,
             text: Stamp::new(text)?,
@@ -100,7 +100,7 @@ pub(crate) fn put_first(text: &mut Vec<u8>, file: u64, time: Option<u32>) -> Res
 pub(crate) struct Firsts {
     alloc: Global,
     /// Where the time of the row is civil, and what it began with is short.
-    front: Option<Front>,
+    front: Option<RowFront>,
 }
 
 impl Firsts {
@@ -111,7 +111,7 @@ impl Firsts {
 
     /// What the row of a file and a time begins with, and the time, where that is known.
     #[inline(always)]
-    pub(crate) fn front_of(&self, file: u64, time: Option<u32>) -> Option<(&Front, u32)>
+    pub(crate) fn front_of(&self, file: u64, time: Option<u32>) -> Option<(&RowFront, u32)>
         ensures { IfSome result (λ p. (p.0.now ≡ (file, p.1 / 60)) × (time ≡ Some p.1)
             × (p.1 < 2 ^ 32)) }
     {
@@ -128,7 +128,7 @@ impl Firsts {
     pub(crate) fn renew(&mut self, file: u64, time: Option<u32>) -> Result<(), AllocError> {
         if let Some(time) = time {
             if time / 60 > LAST_SYSTEM_MINUTE {
-                self.front = Front::of(self.alloc, file, time)?;
+                self.front = RowFront::of(self.alloc, file, time)?;
             }
         }
         Ok(())

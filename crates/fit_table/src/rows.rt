@@ -11,7 +11,7 @@ ghost use Rattle.fit_table.specs.Table as table;
 ghost use Rattle.fit_table.specs.inner.TableCells.{AddsCell, AddsCells, AreSome, EndsRow, effort_cells, place_cells};
 ghost use Rattle.fit_table.specs.inner.TableColumns.{AreNumbers, is_position, shown_number};
 
-use crate::front::{FRONT_SIZE, Firsts, Front, put_first};
+use crate::front::{FRONT_SIZE, Firsts, RowFront, put_first};
 use crate::kinds::Kind;
 use crate::numbers::in_bytes::NumbersInBytes;
 use fit_numbers::write_byte;
@@ -255,7 +255,7 @@ fn put_numbers(
 fn put_begun(
     text: &mut Vec<u8>,
     row: &mut [u8],
-    front: &Front,
+    front: &RowFront,
     time: u32,
     numbers: &NumbersInBytes,
 ) -> Result<(), AllocError>

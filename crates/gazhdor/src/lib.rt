@@ -10,12 +10,10 @@
 //! `Ok` has how many files they are. Else a `Fault` says which byte is refused and why, where the bytes end too soon, or that memory was
 //! refused. `docs/USE.md` has whole programs, `docs/api/gazhdor.md` all names by what they are for.
 //!
-//! Two things have a module of their own: `pieces`, since its `Stream`, which takes bytes, would clash with the `Stream` of records here;
-//! and `laws`, since only proofs call them.
+//! What only proofs call has a module of its own, `laws`.
 #![tactic(auto)]
 
 pub mod laws;
-pub mod pieces;
 
 // Reading: from a `Source`, or as bytes come. A `Fault` says where and why it ended.
 pub use fit_chain::{Event, Fault, Fed};
@@ -42,6 +40,9 @@ pub use fit_names::{
 };
 pub use fit_numbers::{Fixed, Label, degrees, utc_text};
 pub use fit_profile::{FieldView, Message, Stream};
+
+// Pieces: a chain whose bytes come in pieces of any length, and what each piece completes, as a finding, text or blocks.
+pub use fit_stream::{ChainStream, Kind};
 
 // Texts: a chain as CSV text and back, as a table, and a field as the cell that shows it.
 pub use fit_cells::{cell_items, cell_text};

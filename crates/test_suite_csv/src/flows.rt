@@ -4,7 +4,7 @@ use crate::asserts::equal_at;
 use fit_decode::Fault;
 use fit_frame::Reason;
 use fit_report::ReportFault;
-use fit_stream::{Kind, Stream};
+use fit_stream::{Kind, ChainStream};
 use std::alloc::Global;
 use std::process::Abort;
 use test_known::{BOTH_ORDERS, Known, TABLE_HEAD, files};
@@ -50,7 +50,7 @@ fn take_off<'a>(
 /// Feeds a piece with which a chain begins, of which so many files have ended.
 fn feed<'a>(
     rt: &impl Abort,
-    stream: &mut Stream,
+    stream: &mut ChainStream,
     piece: &[u8],
     files: u64,
     wanted: Wanted<'a>,
@@ -64,7 +64,7 @@ fn feed<'a>(
 /// Asks for the end.
 fn finish<'a>(
     rt: &impl Abort,
-    stream: &mut Stream,
+    stream: &mut ChainStream,
     found: Result<u64, ReportFault>,
     wanted: Wanted<'a>,
     place: &(&str, usize),
@@ -107,7 +107,7 @@ fn in_two(
 ) {
     let (k, all) = (first.len(), known.bytes.len());
     let place = &(known.name, k);
-    let mut stream = Stream::new(alloc, kind).expect(rt, "a stream");
+    let mut stream = ChainStream::new(alloc, kind).expect(rt, "a stream");
     let left = feed(rt, &mut stream, first, files_of(known, k), wanted, place);
     let left = finish(rt, &mut stream, found(known, k), left, place);
     let left = feed(rt, &mut stream, second, files_of(known, all), left, place);
@@ -164,7 +164,7 @@ fn at_their_places(rt: &impl Abort, blocks: &[u8], known: &Known) {
 
 /// The blocks of a known input, which comes whole.
 fn blocks_of(rt: &impl Abort, alloc: Global, known: &Known) -> Vec<u8> {
-    let mut stream = Stream::new(alloc, Kind::Messages).expect(rt, "a stream");
+    let mut stream = ChainStream::new(alloc, Kind::Messages).expect(rt, "a stream");
     let (blocks, answer) = stream.feed(known.bytes);
     equal_at(rt, &answer, &found(known, known.bytes.len()), &known.name);
     blocks
@@ -191,7 +191,7 @@ fn refuses(rt: &impl Abort, alloc: Global, kind: Kind, known: &Known, bytes: &[u
         place: known.first as u64,
         reason,
     });
-    let mut stream = Stream::new(alloc, kind).expect(rt, "a stream");
+    let mut stream = ChainStream::new(alloc, kind).expect(rt, "a stream");
     let (text, answer) = stream.feed(bytes);
     equal_at(rt, &answer, &Err(refused), place);
     let left = take_off(rt, text.as_slice(), text_of(kind, known), place);

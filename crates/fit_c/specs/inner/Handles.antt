@@ -6,7 +6,7 @@ use Rattle.std.specs.declared.alloc.Global.{Global}
 use Rattle.std.specs.contracts.impls.GlobalAllocator.TheImpl.{ghosts}
 use Rattle.std_alloc.specs.Box.Ownership.{box_owns}
 use Rattle.fit_stream.specs.Streams.{StreamNow}
-use Rattle.fit_stream.specs.contracts.stream.Stream.{the_row}
+use Rattle.fit_stream.specs.contracts.stream.ChainStream.{the_row}
 
 -- the heap
 abbrev pub the_heap : Global

@@ -25,7 +25,7 @@ use Rattle.fit_table.specs.Degrees.{degrees_of}
 use Rattle.fit_table.specs.Table.{amount_text}
 use Rattle.fit_table.specs.inner.TableCells.{PutsCell, shown_text}
 use Rattle.fit_table.specs.declared.amounts.Amounts.{Amounts}
-use Rattle.fit_table.specs.declared.columns.Place.{Place}
+use Rattle.fit_table.specs.declared.columns.FieldPlace.{FieldPlace}
 use Rattle.fit_table.specs.declared.columns.Places.{Places}
 use Rattle.fit_table.specs.declared.columns.Spot.{Spot}
 use Rattle.fit_table.specs.declared.columns.Column.{Column}
@@ -57,7 +57,7 @@ pub record IsIn (s : Spot) (bytes : List ℕ) : Type 0 where
   pub within : s.offset + s.field.size ≤ length bytes
 
 -- the form and the kind that are kept with a place
-pub record IsKnown (p : Place) : Type 0 where
+pub record IsKnown (p : FieldPlace) : Type 0 where
   pub small : IsSmallForm p.form
   pub form : IsSomeAnd (field 20 p.spot.field.number) (λ m. IsFormOf p.spot.field.code (Some m) p.form)
   pub width : p.form.width ≡ (base_type p.spot.field.code).width
@@ -81,7 +81,7 @@ abbrev pub meant_number : ℕ → FieldDef → Items Global → Option (ℤ × M
 meant_number number f i = option_and_then (λ raw. option_map (λ m. (raw, m)) (field 20 number)) (first_number f i)
 
 -- The number at a place in the bytes of a message was put in a cell, where it is valid; and whether it is.
-abbrev pub PutsValue : Place → Order → List ℕ → Bool → List ℕ → List ℕ → Type 0
+abbrev pub PutsValue : FieldPlace → Order → List ℕ → Bool → List ℕ → List ℕ → Type 0
 PutsValue p o bytes put old new = let f = p.spot.field in
     PutsCell (option_map (λ x. amount_text x.0 x.1.scale x.1.offset) (meant_number f.number f (items_at p.spot o bytes))) put old new
 

@@ -9,7 +9,7 @@ ghost use Rattle.fit_table.specs.inner.TableCells.{AreSome, PutsCell};
 ghost use Rattle.fit_table.specs.inner.TableColumns.{AreNumbers, IsIn, IsKnown, PutsValue, is_position, shown_number};
 
 use crate::amounts::Amounts;
-use crate::columns::{Column, Place, Places};
+use crate::columns::{Column, FieldPlace, Places};
 use crate::kinds::Kind;
 use crate::numbers::{semicircles, write_degrees, write_number};
 use crate::rows::{SHOWN, TABLED, USUAL};
@@ -22,7 +22,7 @@ use fit_cells::write_formed;
 fn write_value_at(
     row: &mut [u8],
     at: usize,
-    place: &Place,
+    place: &FieldPlace,
     order: Order,
     bytes: &[u8],
 ) -> (bool, usize)
@@ -47,7 +47,7 @@ fn write_value_at(
 fn write_other_at(
     row: &mut [u8],
     at: usize,
-    place: &Place,
+    place: &FieldPlace,
     order: Order,
     bytes: &[u8],
 ) -> (bool, usize)
@@ -69,7 +69,7 @@ fn write_placed(
     row: &mut [u8],
     at: usize,
     usual: Kind,
-    place: &Place,
+    place: &FieldPlace,
     order: Order,
     bytes: &[u8],
 ) -> (bool, usize)

@@ -9,9 +9,9 @@ use denote.Param.Send.{IsSend, AllSend, owning_send, struct_send, sendable}
 use Rattle.std.proofs.Common.{Option, None, Some}
 use Rattle.std.proofs.Crossing as heap
 use Rattle.std_alloc.proofs.SendSync.{quiet, lies}
-use Rattle.fit_stream.specs.contracts.stream.Stream as held
+use Rattle.fit_stream.specs.contracts.stream.ChainStream as held
 use Rattle.fit_c.specs.inner.Handles.{holds, the_heap}
-use Rattle.fit_stream.proofs.stream.Stream.TheSendSync.{the_send as stream}
+use Rattle.fit_stream.proofs.stream.ChainStream.TheSendSync.{the_send as stream}
 use Rattle.fit_c.specs.contracts.handle.FitStream.{the_row, the_type}
 
 held_keyless : (p : Ptr) (m : Option held.the_row.Denot) → Keyless (holds p m)

@@ -26,7 +26,7 @@ use Rattle.std.specs.contracts.alloc.Global as heap
 use Rattle.std.proofs.alloc.Global.TheLaws as heap_laws
 use Rattle.std.specs.contracts.impls.GlobalAllocator.TheImpl.{ghosts}
 use Rattle.std.proofs.raw_atomic.Walks.{proved_at, leaves}
-use Rattle.fit_stream.specs.contracts.stream.Stream as held
+use Rattle.fit_stream.specs.contracts.stream.ChainStream as held
 use Rattle.fit_c.specs.contracts.handle.FitStream as handle
 use Rattle.fit_c.proofs.Handles.{lone_val, handle_out, either_held}
 use Rattle.fit_c.proofs.LooseBoxes.{both, Loose, loose_good, loose_in}

@@ -3,7 +3,7 @@ use Rattle.std.proofs.Common.{rules}
 use Rattle.fit_table.proofs.Common.{◌≡◌, ◌∙◌, false, true, not, take, sym, ap, subst}
 use Rattle.fit_table.specs.contracts.kinds.Kind.{the_type}
 use Rattle.fit_table.specs.declared.kinds.Kind.TheVariants.{Other}
-use Rattle.fit_table.specs.declared.columns.Place.{Place}
+use Rattle.fit_table.specs.declared.columns.FieldPlace.{FieldPlace}
 use Rattle.fit_table.specs.inner.TableColumns.{IsIn, IsKnown, PutsValue}
 use Rattle.fit_table.proofs.numbers.in_bytes.write_placed.Goals as goal
 
@@ -20,12 +20,12 @@ pub write_value_at-requires-clause-known : goal.write_value_at-requires-clause-k
 write_value_at-requires-clause-known c = subst IsKnown (sym c.of_kind.ensures) c.requires.known
 
 pub write_value_at-requires-clause-spot : goal.write_value_at-requires-clause-spot
-write_value_at-requires-clause-spot c = subst (λ (p : Place). IsIn p.spot c.args.bytes.now) (sym c.of_kind.ensures) c.requires.spot
+write_value_at-requires-clause-spot c = subst (λ (p : FieldPlace). IsIn p.spot c.args.bytes.now) (sym c.of_kind.ensures) c.requires.spot
 
 pub returns-then-eq-clause-cell : goal.returns-then-eq-clause-cell
 returns-then-eq-clause-cell c =
     subst
-    (λ (p : Place). PutsValue p c.args.order c.args.bytes.now c.write_value_at.result.0 (take c.args.at c.args.row.now)
+    (λ (p : FieldPlace). PutsValue p c.args.order c.args.bytes.now c.write_value_at.result.0 (take c.args.at c.args.row.now)
     (take c.write_value_at.result.1 c.write_value_at.new.row))
     c.of_kind.ensures c.write_value_at.ensures.cell
 

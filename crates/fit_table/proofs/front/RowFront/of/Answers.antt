@@ -1,7 +1,7 @@
 use Rattle.fit_table.proofs.Common.{◌∙◌, ◌++◌, ◌∷◌, [], ap, arith, instant_text, length, take}
 use Rattle.std.proofs.Common.{ℕ, List, decimal}
 use Rattle.fit_table.proofs.FrontFacts.{front_of}
-use Rattle.fit_table.proofs.front.Front.of.Goals as goal
+use Rattle.fit_table.proofs.front.RowFront.of.Goals as goal
 
 pub invariant_of-result : goal.invariant_of-result
 invariant_of-result c =

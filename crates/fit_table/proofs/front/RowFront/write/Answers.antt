@@ -2,7 +2,7 @@ use Rattle.fit_table.proofs.Common.{◌∙◌, ◌++◌, ◌∷◌, ◌%◌, ◌
 use Rattle.std.proofs.Common.{◌<◌, ℕ, decimal}
 use Rattle.fit_texts.specs.InstantText.{instant_text}
 use Rattle.fit_texts.specs.Minutes.{seconds_text}
-use Rattle.fit_table.proofs.front.Front.write.Goals as goal
+use Rattle.fit_table.proofs.front.RowFront.write.Goals as goal
 
 pub write-at-requires-clause-short : goal.write-at-requires-clause-short
 write-at-requires-clause-short c = c.self.invariant.1
