@@ -3,6 +3,7 @@ use Rattle.std.specs.Prelude.{ℕ, List, [], codes}
 use Rattle.std.specs.declared.alloc.Global.{Global}
 use Rattle.fit_report.specs.Heard.{Lines}
 use Rattle.fit_table.specs.EventTexts.{table_text}
+use Rattle.fit_table.specs.declared.rows.TheConstants.{TABLE_LINE}
 use Rattle.fit_rows.specs.EventTexts.{csv_line}
 use Rattle.fit_show.specs.ShowLines.{show_line}
 use Rattle.fit_messages.specs.Blocks.{event_block}
@@ -23,7 +24,7 @@ line_for kinds.Messages = event_block
 abbrev pub first_for : Kind → List ℕ
 first_for kinds.Check = []
 first_for kinds.Show = []
-first_for kinds.Table = codes "file,timestamp,position_lat,position_long,altitude,distance,speed,heart_rate,cadence,power,temperature\n"
+first_for kinds.Table = TABLE_LINE.now
 first_for kinds.Rows = codes "row,a,b,c,d,e,f\n"
 first_for kinds.Messages = []
 
