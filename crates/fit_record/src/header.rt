@@ -87,7 +87,7 @@ pub fn time_offset(byte: u8) -> Option<u8>
 /// The local message type and the time offset in this record header, where it is that of a data message without a reserved bit. Most are
 /// normal ones, which have the local message type alone.
 #[inline(always)]
-pub fn message_header(byte: u8) -> Option<(u8, Option<u8>)>
+pub(crate) fn message_header(byte: u8) -> Option<(u8, Option<u8>)>
     ensures clean { IfSome result (λ _. has_reserved_bit byte ≡ false) }
     ensures data { IfSome result (λ _. is_definition byte ≡ false) }
     ensures local { IfSome result (λ h. h.0 ≡ local_type byte) }

@@ -61,7 +61,8 @@ impl<A: Allocator> Env<A> {
     #[inline(always)]
     pub fn open<'a>(&'a self, bytes: &'a [u8]) -> MessageBytes<'a, A>
         requires { (v : Values A) × IsRecord self.now (Data v) bytes.now }
-        ensures read { (v : Values A) → IsRecord self.now (Data v) bytes.now → message_in result ≡ v }
+        ensures read { (v : Values A) → IsRecord self.now (Data v) bytes.now
+            → message_in result ≡ v }
         ensures spelled { IsRecord self.now (Data (message_in result)) bytes.now }
         ensures defined { defined_at self.now result.local ≡ Some result.defined.now }
         ensures sound { IsSound result.defined.now }
