@@ -2,7 +2,6 @@ use Rattle.fit_cells.proofs.Common.{◌≡◌, ◌∙◌, ◌<◌, ◌+◌, ◌+
 use Rattle.fit_cells.proofs.Common.{take_all, take_more, hex_digits, none_put, more_put, on_err_always}
 use Rattle.std.proofs.Common.{append-nil}
 use Rattle.std.proofs.lemmas.List.{flat_map_more}
-use Rattle.std.proofs.lemmas.Result.{IfOk-from_err}
 use Rattle.fit_cells.proofs.hexadecimal.put_bytes.Goals as goal
 
 -- one more byte is written
@@ -12,9 +11,6 @@ byte_put f bytes i start old new less told put =
     let x = get_or bytes i 0 in
     put ∙ ap (λ t. t ++ f x) told ∙ flat_map_more f start (take i bytes) x ∙ ap (λ l. start ++ flat_map f l) (sym (take_more bytes i 0 less))
 
-pub returns-in_err-extend_from_slice-clause-ok : goal.returns-in_err-extend_from_slice-clause-ok
-returns-in_err-extend_from_slice-clause-ok c = IfOk-from_err c.from_residual.result _ c.from_residual.ensures.0
-
 pub returns-in_err-extend_from_slice-clause-kept : goal.returns-in_err-extend_from_slice-clause-kept
 returns-in_err-extend_from_slice-clause-kept c =
     on_err_always c.from_residual.result _
@@ -22,9 +18,6 @@ returns-in_err-extend_from_slice-clause-kept c =
 
 pub loop-byte-init : goal.loop-byte-init
 loop-byte-init c = sym (append-nil c.extend_from_slice.new.self.items)
-
-pub returns-in_err-put_digits-clause-ok : goal.returns-in_err-put_digits-clause-ok
-returns-in_err-put_digits-clause-ok c = IfOk-from_err c.from_residual-in_err-put_digits.result _ c.from_residual-in_err-put_digits.ensures.0
 
 pub returns-in_err-put_digits-clause-kept : goal.returns-in_err-put_digits-clause-kept
 returns-in_err-put_digits-clause-kept c =

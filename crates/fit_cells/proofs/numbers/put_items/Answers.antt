@@ -2,7 +2,6 @@
 use Rattle.fit_cells.proofs.Common.{◌≡◌, ◌<◌, ◌+◌, ◌∙◌, ◌++◌, ◌∷◌, [], ℕ, List, length, map, flat_map, take, get_or, sym, ap, arith, append_assoc}
 use Rattle.fit_cells.proofs.Common.{take_all, take_more, option_map, meaning, barred, item_text, more_put, on_err_always, part_put}
 use Rattle.std.proofs.Common.{append-nil, length-take-le}
-use Rattle.std.proofs.lemmas.Result.{IfOk-from_err}
 use Rattle.fit_cells.specs.Steps.{bar}
 use Rattle.fit_cells.proofs.numbers.put_items.Goals as goal
 
@@ -35,16 +34,10 @@ loop-place-init c = sym (append-nil c.args.text.now.items)
 pub put_item-requires-clause-bits : goal.put_item-requires-clause-bits
 put_item-requires-clause-bits c = c.requires.bits c.loop-place.place 0 c.loop-place-test.true
 
-pub returns-in_err-put_bar-clause-ok : goal.returns-in_err-put_bar-clause-ok
-returns-in_err-put_bar-clause-ok c = IfOk-from_err c.from_residual.result _ c.from_residual.ensures.0
-
 pub returns-in_err-put_bar-clause-kept : goal.returns-in_err-put_bar-clause-kept
 returns-in_err-put_bar-clause-kept c =
     on_err_always c.from_residual.result _
     (part_put c.args.text.now.items c.loop-place.text.items c.put_bar.new.text.items _ c.loop-place.invariant c.in_err-put_bar.ensures.err)
-
-pub returns-in_err-put_item-clause-ok : goal.returns-in_err-put_item-clause-ok
-returns-in_err-put_item-clause-ok c = IfOk-from_err c.from_residual-in_err-put_item.result _ c.from_residual-in_err-put_item.ensures.0
 
 pub returns-in_err-put_item-clause-kept : goal.returns-in_err-put_item-clause-kept
 returns-in_err-put_item-clause-kept c =

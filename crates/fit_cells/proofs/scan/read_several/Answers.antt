@@ -1,6 +1,5 @@
 use Rattle.fit_cells.proofs.Common.{◌≡◌, ◌∙◌, ◌<◌, ◌^◌, ◌++◌, ◌∷◌, [], All, rules, arith, sym, ap, ap₂, subst, length, get_or, length-append, option_map}
 use Rattle.fit_cells.proofs.Common.{take_all, take_more, All-push, base_type, meaning, item_text}
-use Rattle.std.proofs.lemmas.Result.{IfOk-from_err}
 use Rattle.fit_cells.proofs.TextFacts.{low-item}
 use Rattle.fit_cells.proofs.SplitFacts.{piece, after-piece}
 use Rattle.fit_cells.proofs.scan.read_several.Goals as goal
@@ -29,24 +28,6 @@ loop-place-preserved c =
                 numbers c.loop-place.rest.now c.loop-place.place low within so_far.1,
           );
     }
-
-pub returns-in_err-bits-clause-count : goal.returns-in_err-bits-clause-count
-returns-in_err-bits-clause-count c = IfOk-from_err c.from_residual.result _ c.from_residual.ensures.0
-
-pub returns-in_err-bits-clause-below : goal.returns-in_err-bits-clause-below
-returns-in_err-bits-clause-below c = IfOk-from_err c.from_residual.result _ c.from_residual.ensures.0
-
-pub returns-in_err-bits-clause-every : goal.returns-in_err-bits-clause-every
-returns-in_err-bits-clause-every c = IfOk-from_err c.from_residual.result _ c.from_residual.ensures.0
-
-pub returns-in_err-push-clause-count : goal.returns-in_err-push-clause-count
-returns-in_err-push-clause-count c = IfOk-from_err c.from_residual-in_err-push.result _ c.from_residual-in_err-push.ensures.0
-
-pub returns-in_err-push-clause-below : goal.returns-in_err-push-clause-below
-returns-in_err-push-clause-below c = IfOk-from_err c.from_residual-in_err-push.result _ c.from_residual-in_err-push.ensures.0
-
-pub returns-in_err-push-clause-every : goal.returns-in_err-push-clause-every
-returns-in_err-push-clause-every c = IfOk-from_err c.from_residual-in_err-push.result _ c.from_residual-in_err-push.ensures.0
 
 pub returns-clause-below : goal.returns-clause-below
 returns-clause-below c = c.loop-place.invariant.below

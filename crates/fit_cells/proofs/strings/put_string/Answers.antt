@@ -2,15 +2,12 @@ use Rattle.fit_cells.proofs.Common.{◌≡◌, ◌∙◌, ◌<◌, ◌++◌, len
 use Rattle.fit_cells.proofs.Common.{take_rest, before_closing_zeros, bytes_text, is_plain, on_err_always, StillBegins}
 use Rattle.fit_cells.proofs.TextParts.{text_before, text_after}
 use Rattle.std.proofs.lemmas.List.Elements.{All-take}
-use Rattle.std.proofs.lemmas.Result.{IfOk-from_err, on_ok_weaker}
+use Rattle.std.proofs.lemmas.Result.{on_ok_weaker}
 use Rattle.std.specs.Result.{OnErr}
 use Rattle.fit_cells.proofs.strings.put_string.Goals as goal
 
 pub put_text-requires : goal.put_text-requires
 put_text-requires c = All-take (λ b. b < 256) c.text_len.result c.args.bytes.now c.requires
-
-pub returns-in_err-put_text-clause-ok : goal.returns-in_err-put_text-clause-ok
-returns-in_err-put_text-clause-ok c = IfOk-from_err c.from_residual.result _ c.from_residual.ensures.0
 
 pub returns-in_err-put_text-clause-kept : goal.returns-in_err-put_text-clause-kept
 returns-in_err-put_text-clause-kept c = on_err_always c.from_residual.result _ c.in_err-put_text.ensures.kept

@@ -1,13 +1,9 @@
 -- The bytes before are still there, and one more stands after them.
 use Rattle.fit_cells.proofs.Common.{arith, ◌∙◌, ◌++◌, ◌∷◌, [], take, get_or, sym, ap, append_assoc, take_all, take_more, on_err_always, part_put}
-use Rattle.std.proofs.lemmas.Result.{IfOk-from_err}
 use Rattle.fit_cells.proofs.strings.put_text.Goals as goal
 
 pub overflow_cast-byte : goal.overflow_cast-byte
 overflow_cast-byte c = omega (arith, c.requires c.loop-byte.byte-index 0 c.loop-byte-test.true)
-
-pub returns-in_err-push-clause-ok : goal.returns-in_err-push-clause-ok
-returns-in_err-push-clause-ok c = IfOk-from_err c.from_residual.result _ c.from_residual.ensures.0
 
 pub returns-in_err-push-clause-kept : goal.returns-in_err-push-clause-kept
 returns-in_err-push-clause-kept c =

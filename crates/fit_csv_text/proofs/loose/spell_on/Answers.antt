@@ -1,5 +1,5 @@
 use Rattle.std.proofs.Common.{◌<◌, arith, length}
-use Rattle.std.proofs.lemmas.Result.{IfOk-from_err, err_from_is_err_and}
+use Rattle.std.proofs.lemmas.Result.{err_from_is_err_and}
 use Rattle.fit_csv_text.proofs.PlainTexts.{some-left}
 use Rattle.fit_csv_text.proofs.loose.spell_on.Goals as goal
 
@@ -28,15 +28,6 @@ returns-in_err-left-clause-room c plain most =
 
 pub returns-clause-many : goal.returns-clause-many
 returns-clause-many c some = omega (arith, c.loop.invariant.more some, c.loop-test.false)
-
-pub returns-in_err-left-clause-goes : goal.returns-in_err-left-clause-goes
-returns-in_err-left-clause-goes c = IfOk-from_err c.from_residual.result _ c.from_residual.ensures.0
-
-pub returns-in_err-left-clause-many : goal.returns-in_err-left-clause-many
-returns-in_err-left-clause-many c = IfOk-from_err c.from_residual.result _ c.from_residual.ensures.0
-
-pub returns-in_err-left-clause-few : goal.returns-in_err-left-clause-few
-returns-in_err-left-clause-few c = λ fits. IfOk-from_err c.from_residual.result _ c.from_residual.ensures.0
 
 pub returns-then-is_empty-clause-goes : goal.returns-then-is_empty-clause-goes
 returns-then-is_empty-clause-goes c = c.loop.invariant.goes

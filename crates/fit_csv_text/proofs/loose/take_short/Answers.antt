@@ -1,6 +1,6 @@
 use Rattle.std.proofs.Common.{◌++◌, List, ℕ, arith, subst, sym, append-nil}
 use Rattle.std.proofs.lemmas.List.{length-take}
-use Rattle.std.proofs.lemmas.Result.{IfOk-from_err, err_from_is_err_and}
+use Rattle.std.proofs.lemmas.Result.{err_from_is_err_and}
 use Rattle.fit_csv_text.specs.inner.Loose.{StandsFor}
 use Rattle.fit_csv_text.proofs.loose.take_short.Goals as goal
 
@@ -15,15 +15,3 @@ loop-at-init c = record {
   goes = λ text rows ends stands. subst (λ (w : List ℕ). StandsFor text c.args.text.now (rows ++ w)) (sym (append-nil c.args.written.now.items)) stands;
   lines = λ plain. plain;
 }
-
-pub returns-in_err-put-clause-goes : goal.returns-in_err-put-clause-goes
-returns-in_err-put-clause-goes c = IfOk-from_err c.from_residual.result _ c.from_residual.ensures.0
-
-pub returns-in_err-put-clause-long : goal.returns-in_err-put-clause-long
-returns-in_err-put-clause-long c = IfOk-from_err c.from_residual.result _ c.from_residual.ensures.0
-
-pub returns-in_err-put-clause-few : goal.returns-in_err-put-clause-few
-returns-in_err-put-clause-few c = λ fits. IfOk-from_err c.from_residual.result _ c.from_residual.ensures.0
-
-pub returns-in_err-put-clause-lines : goal.returns-in_err-put-clause-lines
-returns-in_err-put-clause-lines c = λ plain. IfOk-from_err c.from_residual.result _ c.from_residual.ensures.0

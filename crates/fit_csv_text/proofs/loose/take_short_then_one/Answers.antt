@@ -1,5 +1,5 @@
 use Rattle.std.proofs.Common.{arith, length}
-use Rattle.std.proofs.lemmas.Result.{IfOk-from_err, MatchResult-weaker, err_from_is_err_and}
+use Rattle.std.proofs.lemmas.Result.{MatchResult-weaker, err_from_is_err_and}
 use Rattle.fit_csv_text.proofs.PlainTexts.{some-left}
 use Rattle.fit_csv_text.proofs.loose.take_short_then_one.Goals as goal
 
@@ -17,18 +17,6 @@ returns-clause-few c fits = MatchResult-weaker c.take_one.result c.take_one.ensu
 
 pub returns-clause-lines : goal.returns-clause-lines
 returns-clause-lines c plain = c.take_one.ensures.lines (c.in_ok-left.ensures.lines plain)
-
-pub returns-in_err-left-clause-goes : goal.returns-in_err-left-clause-goes
-returns-in_err-left-clause-goes c = IfOk-from_err c.from_residual.result _ c.from_residual.ensures.0
-
-pub returns-in_err-left-clause-more : goal.returns-in_err-left-clause-more
-returns-in_err-left-clause-more c = λ small. IfOk-from_err c.from_residual.result _ c.from_residual.ensures.0
-
-pub returns-in_err-left-clause-few : goal.returns-in_err-left-clause-few
-returns-in_err-left-clause-few c = λ fits. IfOk-from_err c.from_residual.result _ c.from_residual.ensures.0
-
-pub returns-in_err-left-clause-lines : goal.returns-in_err-left-clause-lines
-returns-in_err-left-clause-lines c = λ plain. IfOk-from_err c.from_residual.result _ c.from_residual.ensures.0
 
 pub returns-then-is_empty-clause-goes : goal.returns-then-is_empty-clause-goes
 returns-then-is_empty-clause-goes c = c.in_ok-left.ensures.goes

@@ -1,5 +1,5 @@
 use Rattle.std.proofs.Common.{◌≡◌, ◌∙◌, ℕ, Bool, List, Option, Some, ◌+◌, ◌++◌, ap, ap₂, length, map, subst, sym}
-use Rattle.std.proofs.lemmas.Result.{IfOk-from_err, on_ok_weaker}
+use Rattle.std.proofs.lemmas.Result.{on_ok_weaker}
 use Rattle.std.specs.Global.{Global}
 use Rattle.std.specs.Prelude.{IfSome, if◌then◌else◌, sum_by}
 use Rattle.fit_profile.specs.Described.{namings_at}
@@ -56,15 +56,3 @@ returns c = on_ok_weaker c.put_sized.result (λ put.
     let rest = c.in_ok-extend_from_slice.ensures.items
     ∙ ap₂ (λ (a b : List ℕ). a ++ b) (c.in_ok-put_head.ensures ∙ ap (λ b. b ++ head) c.new-rest.ensures.items) (c.as_slice.ensures.value ∙ all) in
     put ∙ ap (λ b. old ++ sized b) (c.as_slice-2.ensures.value ∙ rest)) c.put_sized.ensures
-
-pub returns-in_err-middle : goal.returns-in_err-middle
-returns-in_err-middle c = IfOk-from_err c.from_residual.result _ c.from_residual.ensures.0
-
-pub returns-in_err-end : goal.returns-in_err-end
-returns-in_err-end c = IfOk-from_err c.from_residual-in_err-end.result _ c.from_residual-in_err-end.ensures.0
-
-pub returns-in_err-put_head : goal.returns-in_err-put_head
-returns-in_err-put_head c = IfOk-from_err c.from_residual-in_err-put_head.result _ c.from_residual-in_err-put_head.ensures.0
-
-pub returns-in_err-extend_from_slice : goal.returns-in_err-extend_from_slice
-returns-in_err-extend_from_slice c = IfOk-from_err c.from_residual-in_err-extend_from_slice.result _ c.from_residual-in_err-extend_from_slice.ensures.0

@@ -1,6 +1,5 @@
 use Rattle.std.proofs.Common.{◌∙◌, ◌+◌, ◌++◌, ap, ap₂, sym, arith, get_or}
 use Rattle.std.proofs.lemmas.List.{append-nil, take_all}
-use Rattle.std.proofs.lemmas.Result.{IfOk-from_err}
 use Rattle.std.specs.Prelude.{slice_get, sum_by}
 use Rattle.fit_profile.specs.Described.{namings_at}
 use Rattle.fit_record.specs.declared.definition.DevDef.{DevDef}
@@ -55,9 +54,3 @@ returns-clause-end c =
     let fields = c.args.fields.now in
     c.loop-place.invariant.far
     ∙ ap (λ l. c.args.at + sum_by (λ (f : DevDef). whole f.size) l) (take_all c.loop-place.place fields (omega (arith, c.loop-place-test.false)))
-
-pub returns-in_err-put_entry-clause-end : goal.returns-in_err-put_entry-clause-end
-returns-in_err-put_entry-clause-end c = IfOk-from_err c.from_residual.result _ c.from_residual.ensures.0
-
-pub returns-in_err-put_entry-clause-entries : goal.returns-in_err-put_entry-clause-entries
-returns-in_err-put_entry-clause-entries c = IfOk-from_err c.from_residual.result _ c.from_residual.ensures.0

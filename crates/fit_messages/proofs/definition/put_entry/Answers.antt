@@ -1,6 +1,6 @@
 use Rattle.std.proofs.Common.{◌≡◌, ◌∙◌, ◌+◌, ◌++◌, ap, arith, length}
 use Rattle.std.proofs.lemmas.List.{length-append}
-use Rattle.std.proofs.lemmas.Result.{IfOk-from_err, on_ok_weaker}
+use Rattle.std.proofs.lemmas.Result.{on_ok_weaker}
 use Rattle.fit_messages.specs.Blocks.{kind_bytes, scale_bytes, text}
 unfoldable use Rattle.fit_messages.specs.Blocks.{low}
 use Rattle.fit_messages.specs.inner.Columns.{said}
@@ -28,18 +28,3 @@ returns c =
     (after b2 (kind_bytes (said c.args.column)) _ b3 new c.in_ok-put_kind.ensures
     (after b3 (scale_bytes c.args.at (said c.args.column)) (name ++ unit) b4 new c.in_ok-put_scale.ensures put))))
     (put_ok c.extend_from_slice.result b4 new c.as_slice.result.now (name ++ unit) c.extend_from_slice.ensures.items (c.as_slice.ensures.value ∙ texts))
-
-pub returns-in_err-unit : goal.returns-in_err-unit
-returns-in_err-unit c = IfOk-from_err c.from_residual.result _ c.from_residual.ensures.0
-
-pub returns-in_err-put_number : goal.returns-in_err-put_number
-returns-in_err-put_number c = IfOk-from_err c.from_residual-in_err-put_number.result _ c.from_residual-in_err-put_number.ensures.0
-
-pub returns-in_err-put_number-2 : goal.returns-in_err-put_number-2
-returns-in_err-put_number-2 c = IfOk-from_err c.from_residual-in_err-put_number-2.result _ c.from_residual-in_err-put_number-2.ensures.0
-
-pub returns-in_err-put_kind : goal.returns-in_err-put_kind
-returns-in_err-put_kind c = IfOk-from_err c.from_residual-in_err-put_kind.result _ c.from_residual-in_err-put_kind.ensures.0
-
-pub returns-in_err-put_scale : goal.returns-in_err-put_scale
-returns-in_err-put_scale c = IfOk-from_err c.from_residual-in_err-put_scale.result _ c.from_residual-in_err-put_scale.ensures.0

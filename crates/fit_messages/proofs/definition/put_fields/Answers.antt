@@ -1,6 +1,5 @@
 use Rattle.std.proofs.Common.{◌∙◌, ◌+◌, ◌++◌, ap, sym, map, arith}
 use Rattle.std.proofs.lemmas.List.{append-nil, take_all}
-use Rattle.std.proofs.lemmas.Result.{IfOk-from_err}
 use Rattle.std.specs.Prelude.{sum_by}
 use Rattle.fit_record.specs.declared.definition.FieldDef.{FieldDef}
 use Rattle.fit_messages.specs.Blocks.{column, entries, entry, whole}
@@ -49,12 +48,3 @@ returns-clause-entries c =
     c.loop-field.invariant.told
     ∙ ap (λ l. c.args.bytes.now.items ++ entries c.args.at (map (column c.args.global) l))
     (take_all c.loop-field.field-index fields (omega (arith, c.loop-field-test.false)))
-
-pub returns-in_err-put_entry-clause-small : goal.returns-in_err-put_entry-clause-small
-returns-in_err-put_entry-clause-small c = IfOk-from_err c.from_residual.result _ c.from_residual.ensures.0
-
-pub returns-in_err-put_entry-clause-end : goal.returns-in_err-put_entry-clause-end
-returns-in_err-put_entry-clause-end c = IfOk-from_err c.from_residual.result _ c.from_residual.ensures.0
-
-pub returns-in_err-put_entry-clause-entries : goal.returns-in_err-put_entry-clause-entries
-returns-in_err-put_entry-clause-entries c = IfOk-from_err c.from_residual.result _ c.from_residual.ensures.0

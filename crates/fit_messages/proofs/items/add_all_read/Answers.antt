@@ -1,6 +1,5 @@
 use Rattle.std.proofs.Common.{◌∙◌, ◌+◌, ◌++◌, length, drop, refl, ap, sym, arith}
 use Rattle.std.proofs.lemmas.List.{append-nil, drop_all, length-drop, drop-drop}
-use Rattle.std.proofs.lemmas.Result.{IfOk-from_err}
 use Rattle.std.specs.Prelude.{flat_map}
 use Rattle.std.specs.Global.{Global}
 use Rattle.fit_record.proofs.FirstOfNumber.{dropped}
@@ -54,12 +53,3 @@ pub returns-clause-rest : goal.returns-clause-rest
 returns-clause-rest c =
     let end = drop_all c.loop-place.place c.args.layout.now (omega (arith, c.loop-place-test.false)) in
     ap (λ slots. drop (sizes slots) c.loop-place.rest.now) (sym end) ∙ c.loop-place.invariant.after
-
-pub returns-in_err-at-clause-place : goal.returns-in_err-at-clause-place
-returns-in_err-at-clause-place c = IfOk-from_err c.from_residual.result _ c.from_residual.ensures.0
-
-pub returns-in_err-at-clause-text : goal.returns-in_err-at-clause-text
-returns-in_err-at-clause-text c = IfOk-from_err c.from_residual.result _ c.from_residual.ensures.0
-
-pub returns-in_err-at-clause-rest : goal.returns-in_err-at-clause-rest
-returns-in_err-at-clause-rest c = IfOk-from_err c.from_residual.result _ c.from_residual.ensures.0

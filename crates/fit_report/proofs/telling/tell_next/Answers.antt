@@ -1,7 +1,6 @@
 -- What is fed is told.
 use Rattle.fit_report.proofs.Common.{channel, reverse, ap, ◌∙◌, subst, Err, hear, AreEvents, AreHeard, Seen, err_from_is_err_and}
 use Rattle.fit_report.proofs.Common.{Global, chain_limit, IsViable}
-use Rattle.std.proofs.lemmas.Result.{IfOk-from_err}
 use Rattle.fit_report.proofs.Hearing.{heard_more, heard_next, not_told, uses_some}
 use Rattle.fit_report.proofs.Pieces.{keeps, keeps_none, stops, stops_before}
 use Rattle.fit_report.proofs.Texts.{stands_more, stands_on, stops_in, text_told}
@@ -95,24 +94,6 @@ returns-clause-used g c = c.in_ok-used.ensures.used
 
 pub returns-clause-works : goal.returns-clause-works
 returns-clause-works g c = c.in_ok-put_text.ensures.works
-
-pub returns-in_err-used-clause-used : goal.returns-in_err-used-clause-used
-returns-in_err-used-clause-used g c = IfOk-from_err c.from_residual.result _ c.from_residual.ensures.0
-
-pub returns-in_err-put_text-clause-used : goal.returns-in_err-put_text-clause-used
-returns-in_err-put_text-clause-used g c = IfOk-from_err c.from_residual-in_err-put_text.result _ c.from_residual-in_err-put_text.ensures.0
-
-pub returns-in_err-used-clause-some : goal.returns-in_err-used-clause-some
-returns-in_err-used-clause-some g c = IfOk-from_err c.from_residual.result _ c.from_residual.ensures.0
-
-pub returns-in_err-put_text-clause-some : goal.returns-in_err-put_text-clause-some
-returns-in_err-put_text-clause-some g c = IfOk-from_err c.from_residual-in_err-put_text.result _ c.from_residual-in_err-put_text.ensures.0
-
-pub returns-in_err-used-clause-works : goal.returns-in_err-used-clause-works
-returns-in_err-used-clause-works g c = IfOk-from_err c.from_residual.result _ c.from_residual.ensures.0
-
-pub returns-in_err-put_text-clause-works : goal.returns-in_err-put_text-clause-works
-returns-in_err-put_text-clause-works g c = IfOk-from_err c.from_residual-in_err-put_text.result _ c.from_residual-in_err-put_text.ensures.0
 
 pub returns-in_err-used-clause-refused : goal.returns-in_err-used-clause-refused
 returns-in_err-used-clause-refused g c =

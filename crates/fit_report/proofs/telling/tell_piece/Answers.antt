@@ -1,7 +1,6 @@
 -- A piece is told event by event, but for what the reporter skips.
 use Rattle.fit_report.proofs.Common.{◌+◌, ◌++◌, ◌∙◌, List, ℕ, None, [], sym, ap, arith, append-nil, Seen, channel, err_from_is_err_and}
 use Rattle.std.proofs.lemmas.List.{take_all}
-use Rattle.std.proofs.lemmas.Result.{IfOk-from_err}
 use Rattle.fit_report.proofs.Pieces.{within_after, fed_after, keeps_after, stops_after}
 use Rattle.fit_report.proofs.Skipped.{fed_so}
 use Rattle.fit_report.proofs.telling.tell_piece.Goals as goal
@@ -97,18 +96,6 @@ returns-clause-all g c =
 
 pub returns-clause-passes : goal.returns-clause-passes
 returns-clause-passes g c = c.loop-at.invariant.stands
-
-pub returns-in_err-skipped-clause-all : goal.returns-in_err-skipped-clause-all
-returns-in_err-skipped-clause-all g c = IfOk-from_err c.from_residual.result _ c.from_residual.ensures.0
-
-pub returns-in_err-at-clause-all : goal.returns-in_err-at-clause-all
-returns-in_err-at-clause-all g c = IfOk-from_err c.from_residual-in_err-at.result _ c.from_residual-in_err-at.ensures.0
-
-pub returns-in_err-skipped-clause-works : goal.returns-in_err-skipped-clause-works
-returns-in_err-skipped-clause-works g c = IfOk-from_err c.from_residual.result _ c.from_residual.ensures.0
-
-pub returns-in_err-at-clause-works : goal.returns-in_err-at-clause-works
-returns-in_err-at-clause-works g c = IfOk-from_err c.from_residual-in_err-at.result _ c.from_residual-in_err-at.ensures.0
 
 pub returns-clause-viable : goal.returns-clause-viable
 returns-clause-viable g c = c.loop-at.invariant.viable

@@ -1,6 +1,5 @@
 -- What is skipped is told.
 use Rattle.fit_report.proofs.Common.{channel, reverse, ap, subst, AreEvents, Seen, err_from_is_err_and, Global, chain_limit, IsViable}
-use Rattle.std.proofs.lemmas.Result.{IfOk-from_err}
 use Rattle.fit_report.proofs.Pieces.{keeps_none, stops_before}
 use Rattle.fit_report.proofs.Skipped.{fed_so, skips_heard}
 use Rattle.fit_report.proofs.Texts.{stands_on, stops_in}
@@ -38,12 +37,6 @@ skip_all-requires-clause-told g c = let s = c.requires.told.2 in (s.heard, s.has
 
 pub returns-clause-works : goal.returns-clause-works
 returns-clause-works g c = c.in_ok-put_text.ensures.works
-
-pub returns-in_err-put_text-clause-used : goal.returns-in_err-put_text-clause-used
-returns-in_err-put_text-clause-used g c = IfOk-from_err c.from_residual.result _ c.from_residual.ensures.0
-
-pub returns-in_err-put_text-clause-works : goal.returns-in_err-put_text-clause-works
-returns-in_err-put_text-clause-works g c = IfOk-from_err c.from_residual.result _ c.from_residual.ensures.0
 
 pub returns-in_err-put_text-clause-refused : goal.returns-in_err-put_text-clause-refused
 returns-in_err-put_text-clause-refused g c =

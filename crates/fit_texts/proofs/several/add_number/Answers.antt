@@ -29,8 +29,5 @@ returns-clause-text c code info form =
     ∙ append_assoc (take c.in_ok-at.at sheet) (bar c.args.place) text)
     ∙ ap (λ t. t ++ (bar c.args.place ++ text)) c.in_ok-at.ensures.text
 
-pub returns-in_err-at-clause-place : goal.returns-in_err-at-clause-place
-returns-in_err-at-clause-place c = IfOk-from_err c.from_residual.result _ c.from_residual.ensures.0
-
 pub returns-in_err-at-clause-text : goal.returns-in_err-at-clause-text
 returns-in_err-at-clause-text c code info form = IfOk-from_err c.from_residual.result _ c.from_residual.ensures.0

@@ -3,7 +3,6 @@ use Rattle.fit_texts.proofs.Common.{◌≡◌, ◌∙◌, ◌++◌, ◌∷◌, [
 use Rattle.std.proofs.Common.{ℕ, List, codes}
 use Rattle.std.proofs.lemmas.List.{append-nil}
 use Rattle.std.proofs.lemmas.List.Concat.{flat_map-append}
-use Rattle.std.proofs.lemmas.Result.{IfOk-from_err}
 use Rattle.std.specs.Prelude.{◌==◌}
 use Rattle.fit_texts.specs.Words.{rest_text}
 use Rattle.fit_texts.proofs.words.put_rest.Goals as goal
@@ -27,12 +26,6 @@ returns c =
     c.loop-byte.invariant
     ∙ ap (λ l. codes "0x" ++ flat_map (λ b. hex_digits 2 b) l) (take_all c.loop-byte.byte-index c.args.rest.now c.loop-byte-test.false)
     ∙ sym (some_rest c.args.rest.now (sym c.is_empty.ensures ∙ c.if-is_empty.false))
-
-pub returns-in_err-extend_from_slice : goal.returns-in_err-extend_from_slice
-returns-in_err-extend_from_slice c = IfOk-from_err c.from_residual.result _ c.from_residual.ensures.0
-
-pub returns-in_err-put_digits : goal.returns-in_err-put_digits
-returns-in_err-put_digits c = IfOk-from_err c.from_residual-in_err-put_digits.result _ c.from_residual-in_err-put_digits.ensures.0
 
 pub returns-then-is_empty : goal.returns-then-is_empty
 returns-then-is_empty c = search rules

@@ -1,7 +1,6 @@
 use Rattle.fit_csv.proofs.Common.{subst, err_from_is_err_and, IsCellFault, IsRowOfThree, row_of}
 use Rattle.fit_cells.specs.Rows.{Cell}
 use Rattle.fit_csv.proofs.DefinitionRows.{dev_def-misfit}
-use Rattle.std.proofs.lemmas.Result.{IfOk-from_err}
 use Rattle.fit_csv.proofs.from.definition.dev_def.Goals as goal
 
 pub returns-in_err-number-clause-err : goal.returns-in_err-number-clause-err
@@ -10,9 +9,3 @@ returns-in_err-number-clause-err c =
     let here = subst (λ (kind : Cell). IsCellFault (IsRowOfThree kind) (row_of c.args.cells.now) c.in_err-number.field-0.0) c.requires
     c.in_err-number.ensures.err in
     rw (p.1, p.2) (dev_def-misfit (row_of c.args.cells.now) c.in_err-number.field-0.0 here)
-
-pub returns-in_err-number-clause-range : goal.returns-in_err-number-clause-range
-returns-in_err-number-clause-range c = IfOk-from_err c.from_residual.result _ c.from_residual.ensures.0
-
-pub returns-in_err-number-clause-ok : goal.returns-in_err-number-clause-ok
-returns-in_err-number-clause-ok c = IfOk-from_err c.from_residual.result _ c.from_residual.ensures.0

@@ -3,7 +3,6 @@ use Rattle.std.specs.Prelude.{option_map}
 use Rattle.fit_csv.proofs.Closest.{closest}
 use Rattle.fit_csv.proofs.SevenCells.{same-cells}
 use Rattle.fit_csv.proofs.ValueRows.{no-items, no-label, value-closest}
-use Rattle.std.proofs.lemmas.Result.{IfOk-from_err}
 use Rattle.fit_csv.proofs.from.fields.value_row.Goals as goal
 
 pub returns-then-not-same-clause-err : goal.returns-then-not-same-clause-err
@@ -45,12 +44,6 @@ returns-in-None-clause-ok c =
     let some : HasShape c.args.code.0 c.args.size c.in-Some.items
     × (cell c.args.code.0 (option_map meaning c.args.info) c.in-Some.items ≡ c.args.cells.now.b.now) = rw c.in-Some.is at c.in_ok-items.ensures.some in
     sym (c.in-None.ensures.none refl) ∙ same-cells refl (c.same.ensures.0 c.if-not-same.false) (sym some.1) refl refl refl refl
-
-pub returns-in_err-items-clause-shape : goal.returns-in_err-items-clause-shape
-returns-in_err-items-clause-shape c = IfOk-from_err c.from_residual.result _ c.from_residual.ensures.0
-
-pub returns-in_err-items-clause-ok : goal.returns-in_err-items-clause-ok
-returns-in_err-items-clause-ok c = IfOk-from_err c.from_residual.result _ c.from_residual.ensures.0
 
 pub returns-in-None-clause-shape : goal.returns-in-None-clause-shape
 returns-in-None-clause-shape c =

@@ -2,7 +2,6 @@ use Rattle.fit_csv.proofs.Common.{◌≡◌, ◌∙◌, ◌++◌, sym, subst, cs
 use Rattle.fit_rows.specs.ChainRows.{definition_rows}
 use Rattle.fit_csv.specs.inner.Judging.{FileTakesRows}
 use Rattle.fit_csv.proofs.WholeRecords.{definition-long, record-goes-on}
-use Rattle.std.proofs.lemmas.Result.{IfOk-from_err}
 use Rattle.fit_csv.proofs.from.guess.take_definition.Goals as goal
 
 pub returns-clause-rows : goal.returns-clause-rows
@@ -15,15 +14,3 @@ returns-clause-rows c =
     subst (FileTakesRows c.args.text.now c.in-Some.rest.now count f) (sym c.in_ok-add_record.ensures.ok)
     (record-goes-on f (Define d) c.args.text.now c.in-Some.rest.now count c.requires.between fits c.is_in_range.ensures text
     (c.definition_rows-count.ensures ∙ sym (definition-long f.before d)))
-
-pub returns-in_err-definition-clause-rows : goal.returns-in_err-definition-clause-rows
-returns-in_err-definition-clause-rows c = IfOk-from_err c.from_residual.result _ c.from_residual.ensures.0
-
-pub returns-in_err-definition-clause-same : goal.returns-in_err-definition-clause-same
-returns-in_err-definition-clause-same c = IfOk-from_err c.from_residual.result _ c.from_residual.ensures.0
-
-pub returns-in_err-add_record-clause-rows : goal.returns-in_err-add_record-clause-rows
-returns-in_err-add_record-clause-rows c = IfOk-from_err c.from_residual-in_err-add_record.result _ c.from_residual-in_err-add_record.ensures.0
-
-pub returns-in_err-add_record-clause-same : goal.returns-in_err-add_record-clause-same
-returns-in_err-add_record-clause-same c = IfOk-from_err c.from_residual-in_err-add_record.result _ c.from_residual-in_err-add_record.ensures.0

@@ -1,6 +1,5 @@
 use Rattle.fit_csv.proofs.Common.{arith}
 use Rattle.fit_csv.proofs.HeaderRows.{header-closest, sizes-fit}
-use Rattle.std.proofs.lemmas.Result.{IfOk-from_err}
 use Rattle.fit_csv.proofs.from.header.closest_header.Goals as goal
 
 pub returns-clause-range : goal.returns-clause-range
@@ -20,9 +19,3 @@ returns-clause-far c other stands =
     rw c.requires (header-closest cells.a.now cells.b.now cells.c.now cells.d.now cells.e.now cells.f.now _ c.size_in-size.ensures.every
     c.protocol_in.ensures.every c.number_in.ensures
     c.sum_in.ensures.every c.in_ok-rest.ensures.every other stands)
-
-pub returns-in_err-rest-clause-range : goal.returns-in_err-rest-clause-range
-returns-in_err-rest-clause-range c = IfOk-from_err c.from_residual.result _ c.from_residual.ensures.0
-
-pub returns-in_err-rest-clause-far : goal.returns-in_err-rest-clause-far
-returns-in_err-rest-clause-far c = IfOk-from_err c.from_residual.result _ c.from_residual.ensures.0

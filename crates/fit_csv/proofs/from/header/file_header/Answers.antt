@@ -1,6 +1,5 @@
 use Rattle.fit_csv.proofs.Common.{refl, file_row, IsFileRow, DifferAt, row_of}
 use Rattle.fit_csv.proofs.Closest.{closest}
-use Rattle.std.proofs.lemmas.Result.{IfOk-from_err}
 use Rattle.fit_csv.proofs.from.header.file_header.Goals as goal
 
 pub returns-in-Some-clause-err : goal.returns-in-Some-clause-err
@@ -9,15 +8,3 @@ returns-in-Some-clause-err c =
     let differs : DifferAt c.in-Some.column (file_row c.in_ok-header.header) (row_of c.args.cells.now) = rw c.in-Some.is at c.in_ok-difference.ensures.some in
     closest IsFileRow (row_of c.args.cells.now) (file_row header) c.in-Some.column (header, c.in_ok-header.ensures.range, refl) c.in_ok-header.ensures.far
     differs
-
-pub returns-in_err-header-clause-range : goal.returns-in_err-header-clause-range
-returns-in_err-header-clause-range c = IfOk-from_err c.from_residual.result _ c.from_residual.ensures.0
-
-pub returns-in_err-header-clause-ok : goal.returns-in_err-header-clause-ok
-returns-in_err-header-clause-ok c = IfOk-from_err c.from_residual.result _ c.from_residual.ensures.0
-
-pub returns-in_err-difference-clause-range : goal.returns-in_err-difference-clause-range
-returns-in_err-difference-clause-range c = IfOk-from_err c.from_residual-in_err-difference.result _ c.from_residual-in_err-difference.ensures.0
-
-pub returns-in_err-difference-clause-ok : goal.returns-in_err-difference-clause-ok
-returns-in_err-difference-clause-ok c = IfOk-from_err c.from_residual-in_err-difference.result _ c.from_residual-in_err-difference.ensures.0

@@ -1,7 +1,6 @@
 use Rattle.fit_csv.proofs.Common.{◌≡◌, ◌∙◌, ◌^◌, All, length, drop, ap, sym, subst, arith, length-pairs}
 use Rattle.std.proofs.Common.{ℕ, ◌<◌, List}
 use Rattle.fit_csv.proofs.HeaderRows.{rest-shown}
-use Rattle.std.proofs.lemmas.Result.{IfOk-from_err}
 use Rattle.fit_csv.proofs.from.header.rest_in.Goals as goal
 
 pub bytes_of-requires-clause-room : goal.bytes_of-requires-clause-room
@@ -23,12 +22,3 @@ returns-clause-every c bytes long small shows =
 
 pub returns-clause-small : goal.returns-clause-small
 returns-clause-small c = subst (λ (bytes : List ℕ). All (λ b. b < 2 ^ 8) bytes) (sym (c.bytes_of.ensures ∙ c.as_slice.ensures)) c.in_ok-bytes.ensures.below
-
-pub returns-in_err-bytes-clause-size : goal.returns-in_err-bytes-clause-size
-returns-in_err-bytes-clause-size c = IfOk-from_err c.from_residual.result _ c.from_residual.ensures.0
-
-pub returns-in_err-bytes-clause-small : goal.returns-in_err-bytes-clause-small
-returns-in_err-bytes-clause-small c = IfOk-from_err c.from_residual.result _ c.from_residual.ensures.0
-
-pub returns-in_err-bytes-clause-every : goal.returns-in_err-bytes-clause-every
-returns-in_err-bytes-clause-every c = IfOk-from_err c.from_residual.result _ c.from_residual.ensures.0

@@ -5,7 +5,6 @@ use Rattle.std.specs.Prelude.{codes}
 use Rattle.fit_csv.proofs.Closest.{closest}
 use Rattle.fit_csv.proofs.SevenCells.{same-cells}
 use Rattle.fit_csv.proofs.MessageRows.{message-closest, time_cell}
-use Rattle.std.proofs.lemmas.Result.{IfOk-from_err}
 use Rattle.fit_csv.proofs.from.message.rest_of_message.Goals as goal
 
 pub returns-in-Some-clause-err : goal.returns-in-Some-clause-err
@@ -40,9 +39,3 @@ returns-in_ok-with_capacity-in-None-clause-ok c =
     let ed : c.as_bytes-2.result.now ≡ time_cell c.args.before.now c.offset_in-offset.result =
     c.as_bytes-2.ensures.value ∙ c.as_str-2.ensures.value ∙ c.header_time_text-time.ensures in
     sym (c.in-None.ensures.none refl) ∙ same-cells c.requires.kind (sym c.requires.shown) c.optional_number.ensures ec ed refl refl
-
-pub returns-in_err-with_capacity-in-None-clause-start : goal.returns-in_err-with_capacity-in-None-clause-start
-returns-in_err-with_capacity-in-None-clause-start c = IfOk-from_err c.from_residual.result _ c.from_residual.ensures.0
-
-pub returns-in_err-with_capacity-in-None-clause-ok : goal.returns-in_err-with_capacity-in-None-clause-ok
-returns-in_err-with_capacity-in-None-clause-ok c = IfOk-from_err c.from_residual.result _ c.from_residual.ensures.0

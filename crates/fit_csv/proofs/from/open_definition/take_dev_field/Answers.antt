@@ -1,12 +1,8 @@
 use Rattle.fit_csv.proofs.Common.{err_from_is_err_and, row_of}
 use Rattle.fit_csv.proofs.DefinitionRows.{dev_def-step}
-use Rattle.std.proofs.lemmas.Result.{IfOk-from_err}
 use Rattle.fit_csv.proofs.from.open_definition.take_dev_field.Goals as goal
 
 pub returns-in_err-field-clause-err : goal.returns-in_err-field-clause-err
 returns-in_err-field-clause-err c =
     let p = err_from_is_err_and c.from_residual.result c.from_residual.ensures.1 in
     rw (p.1, p.2) (dev_def-step c.args.definition.now (row_of c.args.cells.now) c.in_err-field.field-0.0 c.requires c.in_err-field.ensures.err)
-
-pub returns-in_err-field-clause-ok : goal.returns-in_err-field-clause-ok
-returns-in_err-field-clause-ok c = IfOk-from_err c.from_residual.result _ c.from_residual.ensures.0

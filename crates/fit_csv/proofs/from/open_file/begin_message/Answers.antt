@@ -1,7 +1,6 @@
 use Rattle.fit_csv.proofs.Common.{[], ◌∷◌, ap, err_from_is_err_and, row_of}
 use Rattle.fit_cells.specs.Rows.{Cell}
 use Rattle.fit_csv.proofs.PartSteps.{message-misfit}
-use Rattle.std.proofs.lemmas.Result.{IfOk-from_err}
 use Rattle.fit_csv.proofs.from.open_file.begin_message.Goals as goal
 
 pub returns-in_err-values-clause-err : goal.returns-in_err-values-clause-err
@@ -9,6 +8,3 @@ returns-in_err-values-clause-err c =
     let p = err_from_is_err_and c.from_residual.result c.from_residual.ensures.1 in
     rw (p.1, p.2) (message-misfit c.args.before.now (row_of c.args.cells.now) c.in_err-values.field-0.0 (ap (λ (kind : Cell). kind ∷ []) c.requires)
     c.in_err-values.ensures.err)
-
-pub returns-in_err-values-clause-ok : goal.returns-in_err-values-clause-ok
-returns-in_err-values-clause-ok c = IfOk-from_err c.from_residual.result _ c.from_residual.ensures.0

@@ -1,6 +1,5 @@
 use Rattle.fit_csv.proofs.Common.{sym, subst, err_from_is_err_and, IsMisfit, CanStandNext, row_of, Part}
 use Rattle.fit_csv.proofs.PartSteps.{definition-misfit, values-misfit}
-use Rattle.std.proofs.lemmas.Result.{IfOk-from_err}
 use Rattle.fit_csv.proofs.Common.{PartStep, refl}
 use Rattle.std.proofs.Common.{IfOk, IfErr}
 use Rattle.fit_csv.specs.declared.from.open_file.Part.TheVariants.{Definition, Message}
@@ -23,13 +22,6 @@ returns-in_err-take_message_row-in-Message-clause-err c =
     c.in_err-take_message_row-in-Message.field-0.0)
     (sym c.in-Message.is)
     (values-misfit c.args.before.now c.in-Message.values (row_of c.args.cells.now) misfit c.in_err-take_message_row-in-Message.ensures.err))
-
-pub returns-in_err-take_definition_row-in-Definition-clause-ok : goal.returns-in_err-take_definition_row-in-Definition-clause-ok
-returns-in_err-take_definition_row-in-Definition-clause-ok c = IfOk-from_err c.from_residual.result _ c.from_residual.ensures.0
-
-pub returns-in_err-take_message_row-in-Message-clause-ok : goal.returns-in_err-take_message_row-in-Message-clause-ok
-returns-in_err-take_message_row-in-Message-clause-ok c = IfOk-from_err c.from_residual-in_err-take_message_row-in-Message.result _
-    c.from_residual-in_err-take_message_row-in-Message.ensures.0
 
 pub returns-in-Nothing-clause-ok : goal.returns-in-Nothing-clause-ok
 returns-in-Nothing-clause-ok c =

@@ -3,7 +3,6 @@ use Rattle.fit_csv.proofs.Common.{IsMisfit, IsDevRow, naming_at, DevStep, row_of
 use Rattle.std.proofs.Common.{Some}
 use Rattle.std.specs.Prelude.{List, ℕ}
 use Rattle.fit_csv.proofs.ValueSteps.{dev-misfit, dev-step}
-use Rattle.std.proofs.lemmas.Result.{IfOk-from_err}
 use Rattle.fit_csv.proofs.from.open_message.take_dev_field.Goals as goal
 
 pub returns-in_err-items-clause-err : goal.returns-in_err-items-clause-err
@@ -46,6 +45,3 @@ returns-clause-ok c =
     (λ e. subst (λ (dev : List (Items Global)).
     DevStep c.args.before.now c.args.defined.now c.args.values.now (row_of c.args.cells.now) (record c.args.values.now { dev = dev })) (sym e) step)
     c.add.ensures.ok
-
-pub returns-in_err-items-clause-ok : goal.returns-in_err-items-clause-ok
-returns-in_err-items-clause-ok c = IfOk-from_err c.from_residual.result _ c.from_residual.ensures.0

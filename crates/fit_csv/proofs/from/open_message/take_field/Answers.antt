@@ -1,6 +1,5 @@
 use Rattle.fit_csv.proofs.Common.{err_from_is_err_and, row_of}
 use Rattle.fit_csv.proofs.ValueSteps.{field-misfit}
-use Rattle.std.proofs.lemmas.Result.{IfOk-from_err}
 use Rattle.fit_csv.proofs.from.open_message.take_field.Goals as goal
 
 pub returns-in_err-items-clause-err : goal.returns-in_err-items-clause-err
@@ -8,6 +7,3 @@ returns-in_err-items-clause-err c =
     let p = err_from_is_err_and c.from_residual.result c.from_residual.ensures.1 in
     rw (p.1, p.2) (field-misfit c.args.defined.now c.args.values.now c.args.field (row_of c.args.cells.now) c.in_err-items.field-0.0 c.requires
     c.in_err-items.ensures.err)
-
-pub returns-in_err-items-clause-ok : goal.returns-in_err-items-clause-ok
-returns-in_err-items-clause-ok c = IfOk-from_err c.from_residual.result _ c.from_residual.ensures.0

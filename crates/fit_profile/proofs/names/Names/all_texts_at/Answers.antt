@@ -1,6 +1,5 @@
 use Rattle.fit_profile.proofs.Common.{◌≡◌, ◌<◌, ◌+◌, ℕ, List, length, get_or, sym, ap, ◌∙◌, map, take, ◌++◌, [], ◌∷◌, map_more, Naming, naming_in}
 use Rattle.std.proofs.lemmas.List.{take_all}
-use Rattle.std.proofs.lemmas.Result.{IfOk-from_err}
 use Rattle.fit_record.specs.declared.definition.DevDef.{DevDef}
 use Rattle.fit_profile.proofs.names.Names.all_texts_at.Goals as goal
 
@@ -19,12 +18,6 @@ pub returns : goal.returns
 returns g c =
     let given : DevDef → Naming = λ f. naming_in c.args.self.now f.index f.number in
     c.loop-field.invariant ∙ ap (map given) (take_all c.loop-field.field-index c.args.fields.now c.loop-field-test.false)
-
-pub returns-in_err-push : goal.returns-in_err-push
-returns-in_err-push g c = IfOk-from_err c.from_residual-in_err-push.result _ c.from_residual-in_err-push.ensures.0
-
-pub returns-in_err-texts : goal.returns-in_err-texts
-returns-in_err-texts g c = IfOk-from_err c.from_residual.result _ c.from_residual.ensures.0
 
 pub loop-field-init : goal.loop-field-init
 loop-field-init g c = c.new-all.ensures

@@ -1,6 +1,6 @@
 use Rattle.fit_texts.proofs.Common.{◌∙◌, ◌++◌, ◌%◌, ◌^◌, sym, ap, arith, append_assoc, instant_text, seconds_text}
 use Rattle.std.proofs.Common.{◌<◌}
-use Rattle.std.proofs.lemmas.Result.{IfOk-from_err, IfOk-equal}
+use Rattle.std.proofs.lemmas.Result.{IfOk-equal}
 use Rattle.fit_texts.proofs.minutes.Minute.put.Goals as goal
 
 pub returns : goal.returns
@@ -11,6 +11,3 @@ returns c =
     IfOk-equal c.put_seconds.result c.put_seconds.new.text.items (c.put.new.text.items ++ end) (old ++ instant_text c.args.time) c.put_seconds.ensures
     (ap (λ t. t ++ end) c.in_ok-put.ensures ∙ append_assoc old c.self.inside.text end
     ∙ ap (λ t. old ++ t) (sym (c.self.invariant c.args.time low (c.requires ∙ sym c.self.view_is))))
-
-pub returns-in_err-put : goal.returns-in_err-put
-returns-in_err-put c = IfOk-from_err c.from_residual.result _ c.from_residual.ensures.0

@@ -1,7 +1,6 @@
 use Rattle.std.proofs.Common.{rules}
 use Rattle.fit_csv.proofs.Common.{err_from_is_err_and, row_of}
 use Rattle.fit_csv.proofs.ChainSteps.{begin-misfit}
-use Rattle.std.proofs.lemmas.Result.{IfOk-from_err}
 use Rattle.fit_csv.proofs.from.chain.Chain.begin_file.Goals as goal
 
 pub returns-in_err-header-clause-err : goal.returns-in_err-header-clause-err
@@ -12,6 +11,3 @@ returns-in_err-header-clause-err c =
 
 pub returns-clause-ok : goal.returns-clause-ok
 returns-clause-ok c = search rules
-
-pub returns-in_err-header-clause-ok : goal.returns-in_err-header-clause-ok
-returns-in_err-header-clause-ok c = IfOk-from_err c.from_residual.result _ c.from_residual.ensures.0

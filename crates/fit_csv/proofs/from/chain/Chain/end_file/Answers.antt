@@ -1,7 +1,6 @@
 use Rattle.fit_csv.proofs.Common.{[], ◌∷◌, ap, err_from_is_err_and, row_of}
 use Rattle.fit_cells.specs.Rows.{Cell}
 use Rattle.fit_csv.proofs.ChainSteps.{end-misfit}
-use Rattle.std.proofs.lemmas.Result.{IfOk-from_err}
 use Rattle.fit_csv.proofs.from.chain.Chain.end_file.Goals as goal
 
 pub returns-in_err-file_end-clause-err : goal.returns-in_err-file_end-clause-err
@@ -10,9 +9,3 @@ returns-in_err-file_end-clause-err c =
     let (f, some, none, kind) = c.requires in
     rw (p.1, p.2) (end-misfit c.args.self.now f (row_of c.args.cells.now) c.in_err-file_end.field-0.0 some none (ap (λ (k : Cell). k ∷ []) kind)
     c.in_err-file_end.ensures.err)
-
-pub returns-in_err-file_end-clause-ok : goal.returns-in_err-file_end-clause-ok
-returns-in_err-file_end-clause-ok c = IfOk-from_err c.from_residual.result _ c.from_residual.ensures.0
-
-pub returns-in_err-push-clause-ok : goal.returns-in_err-push-clause-ok
-returns-in_err-push-clause-ok c = IfOk-from_err c.from_residual-in_err-push.result _ c.from_residual-in_err-push.ensures.0

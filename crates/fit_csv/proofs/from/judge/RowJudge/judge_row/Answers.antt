@@ -1,5 +1,4 @@
 use Rattle.fit_csv.proofs.Common.{refl, err_from_is_err_and}
-use Rattle.std.proofs.lemmas.Result.{IfOk-from_err}
 use Rattle.fit_csv.proofs.from.judge.RowJudge.judge_row.Goals as goal
 
 pub returns-in_err-judge_row-clause-err : goal.returns-in_err-judge_row-clause-err
@@ -9,12 +8,6 @@ returns-in_err-judge_row-clause-err c =
 
 pub returns-clause-counted : goal.returns-clause-counted
 returns-clause-counted c = refl
-
-pub returns-in_err-judge_row-clause-ok : goal.returns-in_err-judge_row-clause-ok
-returns-in_err-judge_row-clause-ok c = IfOk-from_err c.from_residual.result _ c.from_residual.ensures.0
-
-pub returns-in_err-judge_row-clause-counted : goal.returns-in_err-judge_row-clause-counted
-returns-in_err-judge_row-clause-counted c = IfOk-from_err c.from_residual.result _ c.from_residual.ensures.0
 
 pub returns-clause-ok : goal.returns-clause-ok
 returns-clause-ok c = c.in_ok-judge_row.ensures.ok

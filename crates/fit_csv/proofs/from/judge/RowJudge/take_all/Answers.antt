@@ -1,7 +1,6 @@
 use Rattle.fit_csv.proofs.Common.{◌∙◌, sym, subst, err_from_is_err_and, Chain}
 use Rattle.std.proofs.Common.{ℕ}
 use Rattle.fit_csv.specs.inner.Judging.{HasJudged}
-use Rattle.std.proofs.lemmas.Result.{IfOk-from_err}
 use Rattle.fit_csv.proofs.from.judge.RowJudge.take_all.Goals as goal
 
 pub returns-in_err-left-clause-err : goal.returns-in_err-left-clause-err
@@ -15,6 +14,3 @@ take_rest-requires c =
     subst (λ (n : ℕ). HasJudged c.args.text.now c.in_ok-left.left.now c.take_first_line.new.self.chain n)
     (sym (c.in_ok-left.ensures.rows ∙ c.requires.rows))
     (subst (λ (t : Chain). HasJudged c.args.text.now c.in_ok-left.left.now t 1) (sym (c.in_ok-left.ensures.chain ∙ c.requires.chain)) judged)
-
-pub returns-in_err-left-clause-ok : goal.returns-in_err-left-clause-ok
-returns-in_err-left-clause-ok c = IfOk-from_err c.from_residual.result _ c.from_residual.ensures.0

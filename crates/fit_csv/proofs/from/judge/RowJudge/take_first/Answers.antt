@@ -2,7 +2,6 @@ use Rattle.fit_csv.proofs.Common.{arith, sym, subst, err_from_is_err_and, fields
 use Rattle.std.proofs.Common.{ℕ}
 use Rattle.fit_csv.specs.inner.Judging.{HasJudged}
 use Rattle.fit_csv.proofs.JudgedRows.{few-rows, judged-sound, none-left, row-judged, row-refused}
-use Rattle.std.proofs.lemmas.Result.{IfOk-from_err}
 use Rattle.fit_csv.proofs.from.judge.RowJudge.take_first.Goals as goal
 
 pub judge_row-requires-clause-sound : goal.judge_row-requires-clause-sound
@@ -26,9 +25,3 @@ returns-in_err-judge_row-clause-err c =
 pub returns-in_default-found-clause-judged : goal.returns-in_default-found-clause-judged
 returns-in_default-found-clause-judged c =
     none-left c.args.whole.now c.args.left.now c.args.self.now.chain c.args.self.now.rows c.requires (rw c.in_default-found.is at c.in-Ok.ensures)
-
-pub returns-in_err-judge_row-clause-judged : goal.returns-in_err-judge_row-clause-judged
-returns-in_err-judge_row-clause-judged c = IfOk-from_err c.from_residual.result _ c.from_residual.ensures.0
-
-pub returns-in_err-judge_row-clause-more : goal.returns-in_err-judge_row-clause-more
-returns-in_err-judge_row-clause-more c = IfOk-from_err c.from_residual.result _ c.from_residual.ensures.0

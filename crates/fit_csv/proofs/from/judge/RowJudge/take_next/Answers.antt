@@ -1,7 +1,6 @@
 use Rattle.fit_csv.proofs.Common.{◌++◌, sym, subst, refl, err_from_is_err_and, MatchResult-weaker, IsSoundChain, IsTextFault}
 use Rattle.std.proofs.Common.{ℕ, ◌<◌, IfOk, IfSome}
 use Rattle.fit_csv.proofs.JudgedRows.{fails-from, judges-from}
-use Rattle.std.proofs.lemmas.Result.{IfOk-from_err}
 use Rattle.fit_csv.proofs.from.judge.RowJudge.take_next.Goals as goal
 
 pub returns-in_err-left-clause-err : goal.returns-in_err-left-clause-err
@@ -33,9 +32,3 @@ pub returns-in-None-clause-more : goal.returns-in-None-clause-more
 returns-in-None-clause-more c =
     subst (λ (n : ℕ). IfOk c.take_row.result (λ found. IfSome found (λ p. n < c.take_row.new.self.rows)))
     ((rw c.in-None.is at c.in_ok-left.ensures.rows) refl) c.take_row.ensures.more
-
-pub returns-in_err-left-clause-judged : goal.returns-in_err-left-clause-judged
-returns-in_err-left-clause-judged c = IfOk-from_err c.from_residual.result _ c.from_residual.ensures.0
-
-pub returns-in_err-left-clause-more : goal.returns-in_err-left-clause-more
-returns-in_err-left-clause-more c = IfOk-from_err c.from_residual.result _ c.from_residual.ensures.0

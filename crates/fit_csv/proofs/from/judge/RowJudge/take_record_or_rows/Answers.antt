@@ -1,7 +1,6 @@
 use Rattle.fit_csv.proofs.Common.{[], arith, sym, subst, refl, err_from_is_err_and, IsTextFault}
 use Rattle.std.proofs.Common.{ℕ, ◌<◌, IfOk, IfSome}
 use Rattle.fit_csv.proofs.JudgedRows.{before-it, few-rows, judged-sound, judges-whole}
-use Rattle.std.proofs.lemmas.Result.{IfOk-from_err}
 use Rattle.fit_csv.proofs.from.judge.RowJudge.take_record_or_rows.Goals as goal
 
 pub take_record-requires-clause-sound : goal.take_record-requires-clause-sound
@@ -29,9 +28,3 @@ pub returns-in-None-clause-more : goal.returns-in-None-clause-more
 returns-in-None-clause-more c =
     subst (λ (n : ℕ). IfOk c.take_other.result (λ found. IfSome found (λ p. n < c.take_other.new.self.rows)))
     ((rw c.in-None.is at c.in_ok-rest.ensures.rows) refl) c.take_other.ensures.more
-
-pub returns-in_err-rest-clause-judged : goal.returns-in_err-rest-clause-judged
-returns-in_err-rest-clause-judged c = IfOk-from_err c.from_residual.result _ c.from_residual.ensures.0
-
-pub returns-in_err-rest-clause-more : goal.returns-in_err-rest-clause-more
-returns-in_err-rest-clause-more c = IfOk-from_err c.from_residual.result _ c.from_residual.ensures.0

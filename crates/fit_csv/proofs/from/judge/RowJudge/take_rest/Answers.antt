@@ -1,6 +1,5 @@
 use Rattle.fit_csv.proofs.Common.{arith, sym, subst, err_from_is_err_and, MatchResult-weaker, IsTextFault, CsvFault}
 use Rattle.fit_csv.proofs.JudgedRows.{all-judged, cut-off-after, few-rows}
-use Rattle.std.proofs.lemmas.Result.{IfOk-from_err}
 use Rattle.fit_csv.proofs.from.judge.RowJudge.take_rest.Goals as goal
 
 pub loop-init : goal.loop-init
@@ -51,6 +50,3 @@ unreachable-requires c =
       c.loop-test.false,
       few-rows c.args.whole.now c.loop.left.now c.loop.self.chain c.loop.self.rows c.loop.invariant.judged,
     )
-
-pub returns-in_err-rest-clause-ok : goal.returns-in_err-rest-clause-ok
-returns-in_err-rest-clause-ok c = IfOk-from_err c.from_residual.result _ c.from_residual.ensures.0

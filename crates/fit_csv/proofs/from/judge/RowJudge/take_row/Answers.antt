@@ -2,7 +2,6 @@ use Rattle.fit_csv.proofs.Common.{◌++◌, sym, subst, err_from_is_err_and, fie
 use Rattle.std.proofs.Common.{ℕ}
 use Rattle.fit_csv.specs.inner.Judging.{HasJudged}
 use Rattle.fit_csv.proofs.JudgedRows.{none-left, row-judged, row-refused}
-use Rattle.std.proofs.lemmas.Result.{IfOk-from_err}
 use Rattle.fit_csv.proofs.from.judge.RowJudge.take_row.Goals as goal
 
 pub returns-clause-judged : goal.returns-clause-judged
@@ -26,9 +25,3 @@ returns-in_err-judge_row-clause-err c =
 pub returns-in_default-found-clause-judged : goal.returns-in_default-found-clause-judged
 returns-in_default-found-clause-judged c whole h =
     none-left whole (c.args.front.now ++ c.args.back.now) c.args.self.now.chain c.args.self.now.rows h (rw c.in_default-found.is at c.in-Ok.ensures)
-
-pub returns-in_err-judge_row-clause-judged : goal.returns-in_err-judge_row-clause-judged
-returns-in_err-judge_row-clause-judged c = IfOk-from_err c.from_residual.result _ c.from_residual.ensures.0
-
-pub returns-in_err-judge_row-clause-more : goal.returns-in_err-judge_row-clause-more
-returns-in_err-judge_row-clause-more c = IfOk-from_err c.from_residual.result _ c.from_residual.ensures.0

@@ -2,7 +2,6 @@ use Rattle.fit_csv.proofs.Common.{◌++◌, ◌∙◌, length, arith, sym, subst
 use Rattle.std.proofs.Common.{ℕ, List}
 use Rattle.fit_csv.specs.inner.Judging.{HasJudged}
 use Rattle.fit_csv.proofs.JudgedRows.{few-rows, judged-sound}
-use Rattle.std.proofs.lemmas.Result.{IfOk-from_err}
 use Rattle.fit_csv.proofs.from.judge.RowJudge.take_window.Goals as goal
 
 pub take_next-requires-clause-sound : goal.take_next-requires-clause-sound
@@ -35,12 +34,6 @@ returns-then-is_empty-clause-judged c =
     let none = nil_from_length c.in-Some.rest.now (eqb-true (length c.in-Some.rest.now) 0 (sym c.is_empty.ensures ∙ c.if-is_empty.true)) in
     subst (λ (l : List ℕ). HasJudged c.args.whole.now (l ++ c.in-Some.left.now) c.take_next.new.self.chain c.take_next.new.self.rows) none
     ((rw c.in-Some.is at c.in_ok-rest.ensures.judged) c.args.whole.now c.loop.invariant.judged)
-
-pub returns-in_err-rest-clause-judged : goal.returns-in_err-rest-clause-judged
-returns-in_err-rest-clause-judged c = IfOk-from_err c.from_residual.result _ c.from_residual.ensures.0
-
-pub returns-in_err-rest-clause-more : goal.returns-in_err-rest-clause-more
-returns-in_err-rest-clause-more c = IfOk-from_err c.from_residual.result _ c.from_residual.ensures.0
 
 pub loop-init : goal.loop-init
 loop-init c = record { judged = c.requires; more = omega arith }

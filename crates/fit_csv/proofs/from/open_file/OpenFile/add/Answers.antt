@@ -1,6 +1,5 @@
 use Rattle.fit_csv.proofs.Common.{◌∙◌, sym, ap, subst, Global, Environment, Fits, known}
 use Rattle.fit_profile.proofs.KnownFacts.{known_learned}
-use Rattle.std.proofs.lemmas.Result.{IfOk-from_err}
 use Rattle.fit_csv.proofs.from.open_file.OpenFile.add.Goals as goal
 
 pub push-requires-clause-known : goal.push-requires-clause-known
@@ -8,9 +7,3 @@ push-requires-clause-known c = c.env.ensures ∙ ap known (c.stream.ensures ∙ 
 
 pub push-requires-clause-fits : goal.push-requires-clause-fits
 push-requires-clause-fits c = subst (λ (e : Environment Global). Fits e c.args.r.now) (sym (c.env.ensures ∙ ap known c.stream.ensures)) c.requires.fits
-
-pub returns-in_err-push-clause-ok : goal.returns-in_err-push-clause-ok
-returns-in_err-push-clause-ok c = IfOk-from_err c.from_residual.result _ c.from_residual.ensures.0
-
-pub returns-in_err-take-clause-ok : goal.returns-in_err-take-clause-ok
-returns-in_err-take-clause-ok c = IfOk-from_err c.from_residual-in_err-take.result _ c.from_residual-in_err-take.ensures.0

@@ -1,7 +1,6 @@
 use Rattle.fit_csv.proofs.Common.{◌∙◌, sym, ap, subst, Data, Nothing, known}
 use Rattle.fit_record.specs.Records.{IsRecord}
 use Rattle.fit_profile.proofs.KnownFacts.{known_learned}
-use Rattle.std.proofs.lemmas.Result.{IfOk-from_err}
 use Rattle.fit_csv.proofs.from.open_file.OpenFile.add_message.Goals as goal
 
 pub push_message-requires-clause-known : goal.push_message-requires-clause-known
@@ -20,9 +19,3 @@ returns-clause-ok c v is = λ i. record {
   before = c.in_ok-take_opened.ensures.ok v is i;
   part = Nothing;
 }
-
-pub returns-in_err-push_message-clause-ok : goal.returns-in_err-push_message-clause-ok
-returns-in_err-push_message-clause-ok c = IfOk-from_err c.from_residual.result _ c.from_residual.ensures.0
-
-pub returns-in_err-take_opened-clause-ok : goal.returns-in_err-take_opened-clause-ok
-returns-in_err-take_opened-clause-ok c = IfOk-from_err c.from_residual-in_err-take_opened.result _ c.from_residual-in_err-take_opened.ensures.0

@@ -1,6 +1,5 @@
 use Rattle.fit_csv.proofs.Common.{sym, subst, PartHasRoom, PartStep, row_of, Part}
 use Rattle.fit_csv.proofs.SoundSteps.{part-fits, part-room, part-sound}
-use Rattle.std.proofs.lemmas.Result.{IfOk-from_err}
 use Rattle.fit_csv.proofs.Common.{◌∙◌, on_ok_weaker, MatchResult-weaker, err_from_is_err_and, IsMisfit, CanStandNext}
 use Rattle.fit_csv.proofs.NextSteps.{settled-afresh, no-memory}
 use Rattle.fit_csv.specs.declared.from.misfit.Misfit.TheVariants.{NoMemory}
@@ -22,9 +21,6 @@ add_part-requires-clause-fits c =
 
 pub add_part-requires-clause-same_records : goal.add_part-requires-clause-same_records
 add_part-requires-clause-same_records c = c.requires.sound.same_records
-
-pub returns-in_err-part-clause-ok : goal.returns-in_err-part-clause-ok
-returns-in_err-part-clause-ok c = IfOk-from_err c.from_residual.result _ c.from_residual.ensures.0
 
 pub returns-clause-ok : goal.returns-clause-ok
 returns-clause-ok c =
