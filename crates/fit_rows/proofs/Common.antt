@@ -37,7 +37,7 @@ pub use Rattle.fit_report.specs.Heard.{text_of}
 pub use Rattle.fit_texts.specs.Words.{optional_number, order_word}
 pub use Rattle.fit_rows.specs.ChainRows.{row, chain_rows, data_rows, dev_def_row, dev_row, end_row, field_def_row, field_row, file_row, file_rows, record_rows}
 pub use Rattle.fit_rows.specs.ChainRows.{field_rows, data_row, dev_rows, event_rows, rows_of, message_rows, dev_count}
-pub use Rattle.fit_texts.specs.KeptEvents.{next_records}
+pub use Rattle.fit_text_report.specs.KeptEvents.{next_records}
 unfoldable pub use Rattle.fit_rows.specs.ChainRows.{records_rows, events_rows}
 pub use Rattle.fit_rows.specs.EventTexts.{csv_line}
 pub use Rattle.fit_texts.specs.InstantText.{instant_text}

@@ -4,7 +4,7 @@ use Rattle.fit_rows.proofs.Common.{first_line, chain_rows, end_row, event_rows, 
 use Rattle.fit_rows.proofs.Common.{rows_of}
 use Rattle.std.proofs.Common.{List}
 use Rattle.std.proofs.lemmas.List.{append-nil}
-use Rattle.fit_texts.proofs.HeardEvents.{records_after}
+use Rattle.fit_text_report.proofs.HeardEvents.{records_after}
 
 -- ---- the records of a file
 

@@ -2,7 +2,7 @@
 use Rattle.fit_rows.proofs.Common.{◌≡◌, ◌∙◌, [], ◌∷◌, ◌++◌, refl, ap, reverse-append, Event, text_of, Global, csv_text}
 use Rattle.fit_rows.proofs.Common.{event_rows, events_rows, csv_line, text_append}
 use Rattle.std.proofs.Common.{List, reverse}
-use Rattle.fit_texts.proofs.HeardEvents.{records_after, latest}
+use Rattle.fit_text_report.proofs.HeardEvents.{records_after, latest}
 use Rattle.fit_rows.proofs.RowsOfEvents.{rows-more}
 
 -- the text of events is that of their rows

@@ -21,7 +21,7 @@ use Rattle.fit_cells.specs.Cells.{cell}
 use Rattle.fit_cells.specs.Rows.{Cell, Row, first_line}
 use Rattle.fit_texts.specs.InstantText.{instant_text}
 use Rattle.fit_texts.specs.Words.{optional_number, sum_word, rest_text, order_word, unit_text, dev_label}
-use Rattle.fit_texts.specs.KeptEvents.{next_records}
+use Rattle.fit_text_report.specs.KeptEvents.{next_records}
 
 -- A row has seven cells, the first of which says its kind.
 abbrev pub row : Cell → Cell → Cell → Cell → Cell → Cell → Cell → Row

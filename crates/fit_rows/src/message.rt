@@ -4,7 +4,7 @@ ghost use Rattle.fit_record.specs.MessageBytes.{message_in};
 ghost use Rattle.fit_profile.specs.Opened.{IsOpened};
 ghost use Rattle.fit_cells.specs.Rows.{HasRows};
 ghost use Rattle.fit_rows.specs.ChainRows as rows;
-ghost use Rattle.fit_texts.specs.Current.{AreCurrent};
+ghost use Rattle.fit_text_report.specs.Current.{AreCurrent};
 ghost use Rattle.fit_texts.specs.MessageKeys.{key_of, message_key};
 
 use crate::maker::RowTools;
@@ -12,7 +12,7 @@ use crate::template::Template;
 use fit_shown::ItemBytes;
 use fit_profile::Stream;
 use fit_record::MessageBytes;
-use fit_texts::Findings;
+use fit_text_report::Findings;
 use fit_texts::words::header_time;
 use std::alloc::AllocError;
 

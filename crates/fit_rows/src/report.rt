@@ -8,7 +8,7 @@ use crate::template::Template;
 use fit_frame::Header;
 use fit_profile::Stream;
 use fit_record::{MessageBytes, MessageDef};
-use fit_texts::{Findings, Moment, TextMaker, TextReport};
+use fit_text_report::{Findings, Moment, TextMaker, TextReport};
 use std::alloc::{AllocError, Global};
 
 /// The first line of all rows.

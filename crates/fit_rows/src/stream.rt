@@ -10,7 +10,7 @@ ghost use Rattle.fit_profile.specs.Opened.{TellsNext};
 use crate::template::Template;
 use fit_profile::{Stream, Tells};
 use fit_record::Record;
-use fit_texts::Findings;
+use fit_text_report::Findings;
 use std::alloc::{AllocError, Global};
 use std::marker::Model;
 
@@ -35,7 +35,7 @@ impl Model for RowStream {
     ghost use Rattle.std.specs.Prelude.{List};
     ghost use Rattle.std.specs.Global.{Global};
     ghost use Rattle.fit_record.specs.declared.message.Record.{Record};
-    ghost use Rattle.fit_texts.specs.Current.{AreCurrent};
+    ghost use Rattle.fit_text_report.specs.Current.{AreCurrent};
     ghost use Rattle.fit_texts.specs.MessageKeys.{key_of};
 
     ghost Value = { List (Record Global) };

@@ -11,7 +11,7 @@ ghost use Rattle.fit_profile.specs.Opened.{IsOpened};
 ghost use Rattle.fit_cells.specs.Rows.{csv_text};
 ghost use Rattle.fit_rows.specs.ChainRows.{definition_rows, record_rows};
 ghost use Rattle.fit_rows.specs.WholeMessages.{IsWholeMessage};
-ghost use Rattle.fit_texts.specs.Current.{AreCurrent};
+ghost use Rattle.fit_text_report.specs.Current.{AreCurrent};
 ghost use Rattle.fit_texts.specs.MessageKeys.{key_of};
 
 use crate::likely::likely_definition;
@@ -22,7 +22,8 @@ use crate::template::Template;
 use crate::template::likely::likely_short_number;
 use fit_profile::{Stream, Tells};
 use fit_record::{MessageBytes, MessageDef, Record};
-use fit_texts::{Findings, after_beginning};
+use fit_text_report::Findings;
+use fit_texts::after_beginning;
 use std::alloc::{AllocError, Global};
 use std::marker::Model;
 

@@ -23,7 +23,7 @@ pub use Rattle.fit_record.specs.declared.message.Record.{Record}
 pub use Rattle.fit_record.specs.declared.message.Record.TheVariants.{Values as Data}
 pub use Rattle.fit_record.specs.declared.message.Values.{Values}
 pub use Rattle.fit_report.specs.Heard.{Lines, text_of, latest_records}
-pub use Rattle.fit_texts.specs.KeptEvents.{files_heard}
+pub use Rattle.fit_text_report.specs.KeptEvents.{files_heard}
 pub use Rattle.fit_texts.specs.InstantText.{instant_text}
 pub use Rattle.fit_show.specs.ShowLines.{header_line, record_line, show_line, show_lines, listed, message_line, separator, shown_part, shown_dev, shown_field}
 pub use Rattle.fit_show.specs.ShowLines.{joined, message_front, shown_devs, shown_fields, time_part, unit_part}

@@ -22,7 +22,7 @@ use Rattle.fit_profile.specs.Described.{Naming, namings_at}
 use Rattle.fit_report.specs.Heard.{Lines, latest_records}
 use Rattle.fit_cells.specs.Cells.{cell}
 use Rattle.fit_texts.specs.Words.{sum_word, order_word, unit_text, dev_label}
-use Rattle.fit_texts.specs.KeptEvents.{files_heard}
+use Rattle.fit_text_report.specs.KeptEvents.{files_heard}
 use Rattle.fit_texts.specs.InstantText.{instant_text}
 use Rattle.fit_shown.specs.Shown.{shown_cell}
 

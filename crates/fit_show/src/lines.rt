@@ -6,7 +6,7 @@ ghost use Rattle.fit_profile.specs.Opened.{IsOpened};
 ghost use Rattle.fit_profile.specs.Times as times;
 ghost use Rattle.fit_show.specs.ShowLines.{definition_line, header_line, joined, record_line, versions_text};
 ghost use Rattle.fit_texts.specs.Words as words;
-ghost use Rattle.fit_texts.specs.Current.{AreCurrent};
+ghost use Rattle.fit_text_report.specs.Current.{AreCurrent};
 ghost use Rattle.fit_texts.specs.MessageKeys.{key_of};
 
 use crate::fields::put_words;
@@ -15,7 +15,7 @@ use fit_frame::Header;
 use fit_shown::ItemBytes;
 use fit_profile::{Stream, message_label};
 use fit_record::{MessageBytes, MessageDef};
-use fit_texts::Findings;
+use fit_text_report::Findings;
 use fit_texts::words::{dev_slice, order_word, sum_word};
 use itoa::Buffer;
 use std::alloc::AllocError;

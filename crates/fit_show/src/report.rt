@@ -6,7 +6,8 @@ use crate::template::{LineMaker, LineTemplate};
 use fit_frame::Header;
 use fit_profile::Stream;
 use fit_record::{MessageBytes, MessageDef};
-use fit_texts::{Findings, Moment, SHEET_SIZE, TextMaker, TextReport, Times};
+use fit_text_report::{Findings, Moment, TextMaker, TextReport};
+use fit_texts::{SHEET_SIZE, Times};
 use std::alloc::{AllocError, Global};
 
 impl TextMaker for LineMaker {

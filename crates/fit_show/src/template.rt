@@ -14,7 +14,8 @@ use crate::frames::{ShownField, push_devs, put_dev_head, put_head, shown_fields}
 use fit_shown::ItemBytes;
 use fit_profile::{Stream, message_label};
 use fit_record::{Defined, FieldDef};
-use fit_texts::{Finding, KeptDev, KeptMessage, Sheet, Stamp, Times, WIDE, put_sheet};
+use fit_text_report::Finding;
+use fit_texts::{KeptDev, KeptMessage, Sheet, Stamp, Times, WIDE, put_sheet};
 use itoa::Buffer;
 use std::alloc::{AllocError, Global};
 use std::marker::Model;

@@ -40,7 +40,7 @@ pub use Rattle.fit_record.specs.declared.message.Record.{Record}
 pub use Rattle.fit_record.specs.declared.message.Record.TheVariants.{Define, Values as Data}
 pub use Rattle.fit_record.specs.declared.message.Values.{Values}
 pub use Rattle.fit_report.specs.Heard.{text_of}
-pub use Rattle.fit_texts.specs.KeptEvents.{files_heard, next_records, next_files}
+pub use Rattle.fit_text_report.specs.KeptEvents.{files_heard, next_records, next_files}
 pub use Rattle.fit_table.specs.EventTexts.{table_text}
 pub use Rattle.fit_texts.specs.InstantText.{instant_text}
 unfoldable pub use Rattle.fit_texts.specs.InstantText.{date_after, date_in_year}

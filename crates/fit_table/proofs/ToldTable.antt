@@ -4,7 +4,7 @@ use Rattle.fit_table.proofs.Common.{text_of, csv_text, next_files, files_heard, 
 use Rattle.fit_table.proofs.Common.{text_append}
 use Rattle.std.proofs.Common.{ℕ, List, reverse}
 use Rattle.std.proofs.lemmas.List.{append-nil}
-use Rattle.fit_texts.proofs.HeardEvents.{records_after, latest}
+use Rattle.fit_text_report.proofs.HeardEvents.{records_after, latest}
 
 -- how many files have begun after events one after another
 abbrev files_after : {A : Type 0} → ℕ → List (Event A) → ℕ

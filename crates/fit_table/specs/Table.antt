@@ -20,7 +20,7 @@ use Rattle.fit_cells.specs.Cells.{scaled_value}
 use Rattle.fit_table.specs.Degrees.{degrees_of}
 use Rattle.fit_texts.specs.InstantText.{instant_text}
 use Rattle.fit_cells.specs.Rows.{Cell, Row}
-use Rattle.fit_texts.specs.KeptEvents.{next_files, next_records}
+use Rattle.fit_text_report.specs.KeptEvents.{next_files, next_records}
 
 abbrev pub table_line : Row
 table_line =

@@ -18,7 +18,7 @@ use fit_profile::field_number::COMPRESSED_SPEED_DISTANCE;
 use fit_profile::message_number::RECORD;
 use fit_profile::{Fixed, Stream, field_info, value_of};
 use fit_record::{Defined, FieldDef, same_fields};
-use fit_texts::Finding;
+use fit_text_report::Finding;
 use std::alloc::{AllocError, Global};
 use std::marker::Model;
 

@@ -16,7 +16,7 @@ use crate::numbers::in_bytes::NumbersInBytes;
 use crate::rows::{TableRowMaker, put_row};
 use fit_profile::Stream;
 use fit_record::MessageBytes;
-use fit_texts::Moment;
+use fit_text_report::Moment;
 use std::alloc::{AllocError, Global};
 
 /// What the rows of the table are put with, one after another.

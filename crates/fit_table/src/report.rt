@@ -6,7 +6,7 @@ use fit_frame::Header;
 use fit_profile::Stream;
 use fit_profile::message_number::RECORD;
 use fit_record::{MessageBytes, MessageDef};
-use fit_texts::{Findings, Moment, TextMaker, TextReport};
+use fit_text_report::{Findings, Moment, TextMaker, TextReport};
 use std::alloc::{AllocError, Global};
 
 impl TextMaker for TableMaker {

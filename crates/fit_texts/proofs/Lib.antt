@@ -2,10 +2,8 @@ pub mod Common
 pub mod AddedCells
 pub mod BeginFacts
 pub mod CellFacts
-pub mod CurrentFacts
 mod DevFields
 pub mod DevKeyFacts
-pub mod HeardEvents
 mod InstantFacts
 pub mod ItemFacts
 mod KnownInstants

@@ -1,7 +1,5 @@
 pub mod InstantText
 pub mod Words
-pub mod KeptEvents
-pub mod Current
 pub mod MessageKeys
 pub mod Minutes
 pub mod Sheets

@@ -9,7 +9,7 @@ use crate::template::Template;
 use fit_shown::Pen;
 use fit_profile::Stream;
 use fit_record::Defined;
-use fit_texts::Finding;
+use fit_text_report::Finding;
 use std::alloc::AllocError;
 
 /// Whether what was found before is the template of the definition of this local message type after the records of a stream.

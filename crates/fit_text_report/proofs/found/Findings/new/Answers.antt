@@ -1,0 +1,5 @@
+use Rattle.std.proofs.Common.{rules}
+use Rattle.fit_text_report.proofs.found.Findings.new.Goals as goal
+
+pub returns : goal.returns
+returns g c = search rules

@@ -1,0 +1,2 @@
+pub mod KeptEvents
+pub mod Current

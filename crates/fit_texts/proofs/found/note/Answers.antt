@@ -1,4 +1,0 @@
-use Rattle.fit_texts.proofs.found.note.Goals as goal
-
-pub returns-then-place-lt16 : goal.returns-then-place-lt16
-returns-then-place-lt16 c = cc
