@@ -1,3 +1,4 @@
+use Rattle.std.proofs.Common.{lit<}
 use Rattle.fit_profile.proofs.Common.{◌∙◌, ap, sym, subst, defined_at, known, Environment, Fits}
 use Rattle.std.specs.Global.{Global}
 use Rattle.fit_record.specs.declared.message.Record.TheVariants.{Values as Data}
@@ -5,8 +6,10 @@ use Rattle.fit_profile.proofs.Kept.{kept-record}
 use Rattle.fit_profile.proofs.stream.Stream.open.Goals as goal
 
 pub open-requires : goal.open-requires
-open-requires c =
-    (c.requires.0, kept-record c.args.self.now (Data c.requires.0) c.args.bytes.now c.self.invariant.0 c.self.view_is c.requires.1)
+open-requires c = (
+  lit< tt,
+  (c.requires.0, kept-record c.args.self.now (Data c.requires.0) c.args.bytes.now c.self.invariant.0 c.self.view_is c.requires.1),
+)
 
 pub returns-clause-opened : goal.returns-clause-opened
 returns-clause-opened c =
