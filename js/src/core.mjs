@@ -2,7 +2,7 @@
  * lies, and then freed. */
 import { Answer, NO_MEMORY, OutOfMemory, Trapped, WrongModule } from "./answers.mjs"
 
-export const VERSION = "0.5.0"
+export const VERSION = "0.6.0"
 
 const CALLS = ["check", "table", "to_csv", "show", "messages", "from_csv", "from_messages", "open", "feed", "finish", "close", "alloc", "free", "version"]
 

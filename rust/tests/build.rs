@@ -27,8 +27,8 @@ fn what_is_packed_comes_first() {
 fn the_right_ones() {
     assert_eq!(machine_of("linux", "x86_64"), "x86_64-linux");
     assert_eq!(machine_of("linux", "aarch64"), "aarch64-linux");
-    let right = archive(b"before\x000.5.0\0after", "right");
-    see_library(&right, "0.5.0");
+    let right = archive(b"before\x000.6.0\0after", "right");
+    see_library(&right, "0.6.0");
     fs::remove_file(right).unwrap();
 }
 
@@ -83,14 +83,14 @@ fn damaged() {
     expected = "none/libgazhdor.a can't be read: No such file or directory (os error 2); GAZHDOR_LIB_DIR names"
 )]
 fn no_library() {
-    see_library(Path::new("none/libgazhdor.a"), "0.5.0");
+    see_library(Path::new("none/libgazhdor.a"), "0.6.0");
 }
 
 #[test]
 fn another_version() {
-    let other = archive(b"before\x000.5.01\0after", "other");
-    let seen = std::panic::catch_unwind(|| see_library(&other, "0.5.0"));
+    let other = archive(b"before\x000.6.01\0after", "other");
+    let seen = std::panic::catch_unwind(|| see_library(&other, "0.6.0"));
     fs::remove_file(&other).unwrap();
     let said = seen.unwrap_err().downcast::<String>().unwrap();
-    assert_eq!(*said, format!("{} isn't the library of gazhdor 0.5.0", other.display()));
+    assert_eq!(*said, format!("{} isn't the library of gazhdor 0.6.0", other.display()));
 }
