@@ -1,4 +1,5 @@
 pub mod ChainRows
 pub mod EventTexts
+pub mod WholeMessages
 pub mod Laws
 pub mod inner

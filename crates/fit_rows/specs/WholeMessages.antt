@@ -8,9 +8,9 @@ use Rattle.fit_cells.specs.Rows.{csv_text}
 use Rattle.fit_rows.specs.ChainRows.{data_rows}
 use Rattle.fit_rows.specs.declared.whole.WholeMessage.{WholeMessage}
 
--- The text begins with the rows of this message after these records, which are that many, and this is left of it; and the message tells
+-- A text begins with the rows of this message after these records, which are that many, and this is left of it; and the message tells
 -- this of those after it.
-pub record IsWholeMessage (before : List (Record Global)) (v : Values Global) (text : List ℕ) (m : WholeMessage) : Type 0 where
-  pub text : text ≡ csv_text (data_rows before v) ++ m.left.now
+pub record IsWholeMessage (before : List (Record Global)) (v : Values Global) (all : List ℕ) (m : WholeMessage) : Type 0 where
+  pub text : all ≡ csv_text (data_rows before v) ++ m.left.now
   pub rows : m.rows ≡ length (data_rows before v)
   pub tells : TellsNext before v m.tells
