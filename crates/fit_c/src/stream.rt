@@ -13,7 +13,7 @@ use crate::FitAnswer;
 use crate::answer::{answer_for_report, plain};
 use crate::handle::FitStream;
 use fit_report::ReportFault;
-use fit_stream::{Kind, ChainStream};
+use fit_stream::{ChainStream, Kind};
 use std::alloc::Global;
 
 /// The kind of a number.

@@ -9,9 +9,9 @@ ghost use Rattle.fit_texts.specs.MessageKeys.{key_of, message_key};
 
 use crate::maker::RowTools;
 use crate::template::Template;
-use fit_shown::ItemBytes;
 use fit_profile::Stream;
 use fit_record::MessageBytes;
+use fit_shown::ItemBytes;
 use fit_text_report::Findings;
 use fit_texts::words::header_time;
 use std::alloc::AllocError;

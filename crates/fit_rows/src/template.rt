@@ -19,9 +19,9 @@ pub(crate) mod likely;
 
 use crate::maker::RowTools;
 use crate::template::first_row::first_row;
-use fit_shown::{Frame, ItemBytes, Pen, put_tail};
 use fit_profile::{Stream, field_info, field_label, write_fixed};
 use fit_record::{Defined, FieldDef};
+use fit_shown::{Frame, ItemBytes, Pen, put_tail};
 use fit_texts::words::unit_text;
 use fit_texts::{KeptDev, KeptMessage, Sheet, Stamp, Times, WIDE, put_sheet, write_text};
 use std::alloc::AllocError;

@@ -7,9 +7,9 @@ ghost use Rattle.fit_texts.specs.Sheets.{and_sheet};
 ghost use Rattle.fit_show.specs.inner.Showing.{dev_field_part, field_part, first_head, key_text, shown_keys, spaced};
 
 use crate::fields::{put_name, put_words, separator};
-use fit_shown::{ItemBytes, ShownCell};
 use fit_profile::{Info, field_info, field_label};
 use fit_record::FieldDef;
+use fit_shown::{ItemBytes, ShownCell};
 use fit_texts::words::unit_text;
 use fit_texts::{KeptDev, Sheet, Stamp, WIDE};
 use std::alloc::{AllocError, Global};

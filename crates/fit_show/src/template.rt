@@ -11,9 +11,9 @@ ghost use Rattle.fit_texts.specs.Sheets.{and_sheet};
 
 use crate::fields::put_words;
 use crate::frames::{ShownField, push_devs, put_dev_head, put_head, shown_fields};
-use fit_shown::ItemBytes;
 use fit_profile::{Stream, message_label};
 use fit_record::{Defined, FieldDef};
+use fit_shown::ItemBytes;
 use fit_text_report::Finding;
 use fit_texts::{KeptDev, KeptMessage, Sheet, Stamp, Times, WIDE, put_sheet};
 use itoa::Buffer;

@@ -4,7 +4,7 @@ use crate::asserts::equal_at;
 use fit_decode::Fault;
 use fit_frame::Reason;
 use fit_report::ReportFault;
-use fit_stream::{Kind, ChainStream};
+use fit_stream::{ChainStream, Kind};
 use std::alloc::Global;
 use std::process::Abort;
 use test_known::{BOTH_ORDERS, Known, TABLE_HEAD, files};

@@ -6,9 +6,9 @@ ghost use Rattle.fit_profile.specs.Looks.{known};
 ghost use Rattle.fit_texts.specs.MessageKeys.{message_key};
 
 use crate::template::Template;
-use fit_shown::Pen;
 use fit_profile::Stream;
 use fit_record::Defined;
+use fit_shown::Pen;
 use fit_text_report::Finding;
 use std::alloc::AllocError;
 

@@ -6,8 +6,8 @@ ghost use Rattle.fit_profile.specs.Names.{message_label};
 ghost use Rattle.fit_rows.specs.ChainRows as rows;
 
 use fit_cells::RowWriter;
-use fit_shown::{Pen, put_two};
 use fit_profile::message_label;
+use fit_shown::{Pen, put_two};
 use fit_texts::{Stamp, WIDE};
 use itoa::Buffer;
 use std::alloc::AllocError;

@@ -19,8 +19,8 @@ invariant_of-self c =
     let is = kept-record now (Data v) c.args.bytes.now c.self.invariant.0 c.self.view_is read in
     let told = c.requires.2 in
     let alone = subst (λ e. IsSomeAnd (defined_at e v.local) (λ p. tells_more p.definition ≡ false))
-        (sym (c.self.invariant.0.env_is ∙ ap known c.self.view_is))
-        (alone_as_told (defined_at (known now) v.local) v c.args.tells.more read.0 told.more c.if-tells.false) in
+    (sym (c.self.invariant.0.env_is ∙ ap known c.self.view_is))
+    (alone_as_told (defined_at (known now) v.local) v c.args.tells.more read.0 told.more c.if-tells.false) in
     let nothing = timed_nothing s.env v _ refl alone in
     let own = told.time
     ∙ sym (ap₂ (λ e l. time_of e l.time (Data v)) c.self.invariant.0.env_is c.self.invariant.0.last_is ∙ ap (λ xs. time xs (Data v)) c.self.view_is) in (
