@@ -17,7 +17,7 @@ ghost use Rattle.fit_profile.specs.inner.Plans.{ArePlanned, IsPlan, IsPlanned};
 use crate::plan::{Plan, Plans, has_lone_fields};
 use crate::time::header_time;
 use crate::told::{
-    DISTANCE, Last, Told, accumulated, counted, last_after, speed, uncounted, with_time,
+    DISTANCE, Last, Told, accumulated, counted, last_after, note_time, speed, uncounted,
 };
 use fit_history::History;
 use fit_record::{Env, MessageBytes, Record};
@@ -46,21 +46,17 @@ pub struct Tells {
     pub more: bool,
 }
 
-/// The time of a message by the last time before it.
+/// The time of a message by the last ones before it.
 #[inline(always)]
-pub(crate) fn time_of_message(
-    previous: Option<u32>,
-    plan: &Plan,
-    message: &MessageBytes<'_>,
-) -> Option<u32>
+pub(crate) fn time_of_message(last: &Last, plan: &Plan, message: &MessageBytes<'_>) -> Option<u32>
     requires plan { IsPlan plan.now message.now.defined.now.definition }
     requires size { length message.now.body.now ≡ message_size message.now.defined.now }
     ensures { result ≡ or_else (times.field_time message.now.defined.now.definition
-        (message_in message.now)) (times.header_time previous message.now.offset) }
+        (message_in message.now)) (times.header_time last.now.time message.now.offset) }
 {
     match plan.time(message.defined.definition.order, message.body) {
         Some(time) => Some(time),
-        None => header_time(previous, message.offset),
+        None => header_time(last.time, message.offset),
     }
 }
 
@@ -72,7 +68,7 @@ fn counted_of_message(last: Last, plan: &Plan, message: &MessageBytes<'_>) -> To
     ensures { result ≡ telling.told_at last message.now.defined.now.definition
         (message_in message.now) }
 {
-    let time = time_of_message(last.time, plan, message);
+    let time = time_of_message(&last, plan, message);
     let header_time = header_time(last.time, message.offset);
     let distance = plan.counters.distance_in(message.body);
     let cycles = plan.counters.cycles_in(message.body);
@@ -154,9 +150,9 @@ fn tell_next(last: &mut Last, plan: &Plan, message: &MessageBytes<'_>) -> Told
         *last = last_after(*last, Some(told));
         return told;
     }
-    let time = time_of_message(last.time, plan, message);
+    let time = time_of_message(last, plan, message);
     let header_time = header_time(last.time, message.offset);
-    *last = with_time(*last, time);
+    note_time(last, time);
     uncounted(time, header_time)
 }
 

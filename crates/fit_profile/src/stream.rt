@@ -29,7 +29,7 @@ use crate::message::Message;
 use crate::message_bytes::{Taken, add_bytes, said_in, take_telling};
 use crate::names::Names;
 use crate::plan::Plans;
-use crate::told::{Last, Told, last_after, uncounted, with_time};
+use crate::told::{Last, Told, last_after, note_time, uncounted};
 use fit_history::History;
 use fit_record::{Env, Record, Values};
 use std::alloc::{AllocError, Global};
@@ -155,7 +155,7 @@ impl Stream {
         ensures kept { result ≡ None → self.new ≡ self.old }
     {
         let (time, header_time) = tell_times(&self.env, &self.plans, self.last, record_)?;
-        self.last = with_time(self.last, time);
+        note_time(&mut self.last, time);
         self.pushed.add(record_);
         Some((time, header_time))
     }

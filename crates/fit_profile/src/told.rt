@@ -132,12 +132,12 @@ pub(crate) fn last_after(last: Last, told: Option<Told>) -> Last
     }
 }
 
-/// The last ones after a message that tells nothing but this time.
-pub(crate) fn with_time(last: Last, time: Option<u32>) -> Last
-    ensures { result ≡ record last { time = or_else time last.time } }
+/// Changes the last ones to those after a message that tells nothing but this time.
+#[inline(always)]
+pub(crate) fn note_time(last: &mut Last, time: Option<u32>)
+    ensures { last.new ≡ record last.old { time = or_else time last.old.time } }
 {
-    Last {
-        time: time.or(last.time),
-        ..last
+    if let Some(time) = time {
+        last.time = Some(time);
     }
 }

@@ -17,7 +17,6 @@ use fit_texts::words::header_time;
 use std::alloc::AllocError;
 
 /// Puts the rows of a data message that is opened after the records of a stream, by the template of its definition.
-#[inline(always)]
 pub(crate) fn put_values(
     text: &mut Vec<u8>,
     tools: &mut RowTools,

@@ -308,6 +308,7 @@ impl Template {
     }
 
     /// Puts the rows of a message, by the time of its header.
+    #[inline(always)]
     pub(crate) fn put(
         &self,
         text: &mut Vec<u8>,

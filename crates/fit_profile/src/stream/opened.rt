@@ -36,7 +36,7 @@ impl Stream {
     {
         let plan = plan_of(&self.plans, message);
         Tells {
-            time: time_of_message(self.last.time, plan, message),
+            time: time_of_message(&self.last, plan, message),
             more: plan.tells_more,
         }
     }

@@ -13,7 +13,7 @@ ghost use Rattle.fit_profile.specs.Opened.{TellsNext};
 use super::Stream;
 use crate::by_header::is_silent;
 use crate::message_bytes::{Tells, add_bytes};
-use crate::told::with_time;
+use crate::told::note_time;
 use std::alloc::AllocError;
 
 impl Stream {
@@ -52,7 +52,7 @@ impl Stream {
         if tells.more {
             return self.take_message(bytes);
         }
-        self.last = with_time(self.last, tells.time);
+        note_time(&mut self.last, tells.time);
         add_bytes(&self.env, &mut self.pushed, bytes);
         Ok(())
     }

@@ -22,5 +22,5 @@ returns-clause-last c =
     let m = c.args.message.now in
     let d = m.defined.now.definition in
     let last = c.args.last.now in
-    c.with_time.ensures ∙ ap (λ t. record last { time = or_else t last.time }) c.time_of_message-time.ensures
+    c.note_time.ensures ∙ ap (λ t. record last { time = or_else t last.time }) c.time_of_message-time.ensures
     ∙ only-time last d (message_in m) (parts d (sym c.requires.plan.more ∙ c.if-plan.false)).1

@@ -6,9 +6,9 @@ use Rattle.fit_profile.proofs.stream.Stream.note_times.Goals as goal
 pub invariant_of-self : goal.invariant_of-self
 invariant_of-self c =
     let s = c.self.inside in (
-      keeps-plain s.env s.last c.with_time-self-inside.result s.names s.pushed.items c.add.new.self.items c.args.self.now c.args.record_.now
+      keeps-plain s.env s.last c.note_time.new.last s.names s.pushed.items c.add.new.self.items c.args.self.now c.args.record_.now
           c.self.invariant.0 c.self.view_is c.requires c.in_ok-time.ensures.nothing
-          (c.with_time-self-inside.ensures ∙ ap (last_after s.last) c.in_ok-time.ensures.told) c.add.ensures,
+          (c.note_time.ensures ∙ ap (last_after s.last) c.in_ok-time.ensures.told) c.add.ensures,
       c.self.invariant.1,
       not-first s.is_new s.pushed.items c.add.new.self.items c.args.self.now s.env c.args.record_.now c.self.invariant.2 c.self.view_is c.requires
           c.in_ok-time.ensures.nothing,

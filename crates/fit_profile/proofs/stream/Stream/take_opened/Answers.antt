@@ -24,8 +24,8 @@ invariant_of-self c =
     let nothing = timed_nothing s.env v _ refl alone in
     let own = told.time
     ∙ sym (ap₂ (λ e l. time_of e l.time (Data v)) c.self.invariant.0.env_is c.self.invariant.0.last_is ∙ ap (λ xs. time xs (Data v)) c.self.view_is) in (
-      keeps-last s.env s.last c.with_time-self-inside.result s.names s.pushed.items c.add_bytes.new.records.items now v c.self.invariant.0 c.self.view_is
-          read.0 nothing (c.with_time-self-inside.ensures ∙ timed_last s.env s.last v _ c.args.tells.time refl alone own) (c.add_bytes.ensures v is),
+      keeps-last s.env s.last c.note_time.new.last s.names s.pushed.items c.add_bytes.new.records.items now v c.self.invariant.0 c.self.view_is
+          read.0 nothing (c.note_time.ensures ∙ timed_last s.env s.last v _ c.args.tells.time refl alone own) (c.add_bytes.ensures v is),
       c.self.invariant.1,
       not-first s.is_new s.pushed.items c.add_bytes.new.records.items now s.env (Data v) c.self.invariant.2 c.self.view_is read.0 nothing,
     )
