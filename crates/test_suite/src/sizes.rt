@@ -14,11 +14,10 @@ const LIST: usize = 24;
 /// The bytes of the address of one.
 const ADDRESS: usize = 8;
 
-/// A sum is a register of sixteen bits, the bytes that it holds back, and how many they are. What was added before has no bytes.
+/// A sum is a register of sixteen bits. What was added to it has no bytes.
 #[test]
-fn no_list_in_a_sum(rt: HostRuntime) {
-    let held = mem::size_of::<[u8; 2048]>();
-    assert!(rt; mem::size_of::<Sum>() < held + LIST);
+fn no_byte_that_was_added_in_a_sum(rt: HostRuntime) {
+    assert!(rt; mem::size_of::<Sum>() <= 16);
     assert!(rt; mem::size_of::<History<u8>>() == 0);
 }
 

@@ -1,6 +1,5 @@
-use Rattle.fit_sum.proofs.Common.{arith}
 use Rattle.fit_sum.proofs.RegisterOfAdded.{IsSumOf-none}
 use Rattle.fit_sum.proofs.sum.Sum.clear.Goals as goal
 
 pub invariant_of-self : goal.invariant_of-self
-invariant_of-self c = rw c.new-self-inside.ensures (IsSumOf-none, omega arith)
+invariant_of-self c = rw c.new-self-inside.ensures IsSumOf-none
