@@ -47,16 +47,25 @@ extern "C" {
 
 /* What a call found. */
 enum gazhdor_status {
-    GAZHDOR_GOOD = 0,      /* The bytes are a FIT file, or several, one after another; or the text is that of such files. */
-    GAZHDOR_REFUSED = 1,   /* The byte at `place` is the first that cannot belong to any such file: `reason` says why. */
-    GAZHDOR_TRUNCATED = 2, /* The bytes begin such a file, and end too soon, at `place`. */
-    GAZHDOR_NO_MEMORY = 3, /* Memory was refused. This says nothing of the bytes or of the text. */
-    GAZHDOR_TEXT = 4,      /* Row `row` of the text isn't allowed where it is; where `column` isn't 0, because of that cell. */
-    GAZHDOR_UNWRITABLE = 5, /* The rows of the text, or the blocks, are those of files that have no bytes: too long, or with zeros for a
-                             * checksum of 0. */
-    GAZHDOR_CLOSED = 6,    /* The stream isn't open. */
-    GAZHDOR_NO_KIND = 7,   /* There is no such kind of stream. */
-    GAZHDOR_BLOCK = 8      /* The block `row`, which begins at `place`, can't stand where it is: `reason` says why. */
+    /* The bytes are a FIT file, or several, one after another; or the text is that of such files. */
+    GAZHDOR_GOOD = 0,
+    /* The byte at `place` is the first that cannot belong to any such file: `reason` says why. */
+    GAZHDOR_REFUSED = 1,
+    /* The bytes begin such a file, and end too soon, at `place`. */
+    GAZHDOR_TRUNCATED = 2,
+    /* Memory was refused. This says nothing of the bytes or of the text. */
+    GAZHDOR_NO_MEMORY = 3,
+    /* Row `row` of the text isn't allowed where it is; where `column` isn't 0, because of that cell. */
+    GAZHDOR_TEXT = 4,
+    /* The rows of the text, or the blocks, are those of files that have no bytes: too long, or with zeros for a
+     * checksum of 0. */
+    GAZHDOR_UNWRITABLE = 5,
+    /* The stream isn't open. */
+    GAZHDOR_CLOSED = 6,
+    /* There is no such kind of stream. */
+    GAZHDOR_NO_KIND = 7,
+    /* The block `row`, which begins at `place`, can't stand where it is: `reason` says why. */
+    GAZHDOR_BLOCK = 8
 };
 
 /* Why a byte is refused. docs/USE.md, "Is an upload a FIT file?", says what each means. */
@@ -199,6 +208,7 @@ const char *gazhdor_version(void);
 }
 #endif
 
+#include "gazhdor_numbers.h"
 #include "gazhdor_blocks.h"
 #include "gazhdor_write.h"
 #include "gazhdor_set.h"

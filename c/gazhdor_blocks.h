@@ -24,34 +24,11 @@
 extern "C" {
 #endif
 
-/* What a block tells. */
-enum gazhdor_kind { GAZHDOR_FILE_HEADER = 1, GAZHDOR_DEFINITION = 2, GAZHDOR_MESSAGE = 3, GAZHDOR_FILE_END = 4 };
-
-/* What the items of a field stand for. Of a string and of bytes each item is one byte. */
-enum gazhdor_items_kind { GAZHDOR_UNSIGNED = 0, GAZHDOR_SIGNED = 1, GAZHDOR_FLOAT = 2, GAZHDOR_STRING = 3, GAZHDOR_BYTES = 4 };
-
 /* What gazhdor_amount gives. */
 enum gazhdor_amount_kind { GAZHDOR_SPEED = 0, GAZHDOR_DISTANCE = 1, GAZHDOR_CYCLES = 2, GAZHDOR_POWER = 3 };
 
 #define GAZHDOR_NO_MESSAGE 0xFFFFFFFFu
-#define GAZHDOR_NO_TIME 0xFFFFFFFFu
 #define GAZHDOR_NO_DEFINITION 0xFFFFFFFFFFFFFFFFu
-
-/* The global message numbers of the messages that have names, those of profile/fields.tsv. */
-enum gazhdor_message_number {
-    GAZHDOR_MESSAGE_FILE_ID = 0,
-    GAZHDOR_MESSAGE_SPORT = 12,
-    GAZHDOR_MESSAGE_SESSION = 18,
-    GAZHDOR_MESSAGE_LAP = 19,
-    GAZHDOR_MESSAGE_RECORD = 20,
-    GAZHDOR_MESSAGE_EVENT = 21,
-    GAZHDOR_MESSAGE_DEVICE_INFO = 23,
-    GAZHDOR_MESSAGE_ACTIVITY = 34,
-    GAZHDOR_MESSAGE_FILE_CREATOR = 49,
-    GAZHDOR_MESSAGE_HRV = 78,
-    GAZHDOR_MESSAGE_FIELD_DESCRIPTION = 206,
-    GAZHDOR_MESSAGE_DEVELOPER_DATA_ID = 207
-};
 
 /* Add this to a time for seconds since 1970-01-01T00:00:00 UTC. A time below GAZHDOR_SYSTEM_TIME has no date: it counts from when the
  * device was switched on. */

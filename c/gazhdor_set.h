@@ -152,7 +152,6 @@ static inline uint32_t gazhdor_set_items(gazhdor_writer *to, gazhdor_field field
 
 /* Gives the message a compressed header with this time offset, of 0 to 31 seconds, which local message types 0 to 3 may have; or with
  * GAZHDOR_NO_OFFSET a normal one, as each message that is made has. */
-#define GAZHDOR_NO_OFFSET 255u
 static inline uint32_t gazhdor_set_offset(gazhdor_writer *to, uint32_t seconds)
 {
     if (gazhdor_block_at(to, to->message).kind != GAZHDOR_MESSAGE)

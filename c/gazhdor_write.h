@@ -38,27 +38,6 @@ enum gazhdor_put {
     GAZHDOR_PUT_NAN = 9     /* The value isn't a number. */
 };
 
-/* The base types of fields, by their codes in the file. */
-enum gazhdor_base_type {
-    GAZHDOR_TYPE_ENUM = 0x00,
-    GAZHDOR_TYPE_SINT8 = 0x01,
-    GAZHDOR_TYPE_UINT8 = 0x02,
-    GAZHDOR_TYPE_STRING = 0x07,
-    GAZHDOR_TYPE_UINT8Z = 0x0A,
-    GAZHDOR_TYPE_BYTE = 0x0D,
-    GAZHDOR_TYPE_SINT16 = 0x83,
-    GAZHDOR_TYPE_UINT16 = 0x84,
-    GAZHDOR_TYPE_SINT32 = 0x85,
-    GAZHDOR_TYPE_UINT32 = 0x86,
-    GAZHDOR_TYPE_FLOAT32 = 0x88,
-    GAZHDOR_TYPE_FLOAT64 = 0x89,
-    GAZHDOR_TYPE_UINT16Z = 0x8B,
-    GAZHDOR_TYPE_UINT32Z = 0x8C,
-    GAZHDOR_TYPE_SINT64 = 0x8E,
-    GAZHDOR_TYPE_UINT64 = 0x8F,
-    GAZHDOR_TYPE_UINT64Z = 0x90
-};
-
 #define GAZHDOR_NOWHERE (~GAZHDOR_CAST(size_t, 0))
 
 /* Gives memory of at least that capacity which begins with what `bytes` held, and lets go of `bytes`, which may be NULL; NULL where there
@@ -113,19 +92,15 @@ static inline gazhdor_writer gazhdor_write(uint8_t *bytes, size_t capacity, gazh
  * such number or base type, or where it has more than 255 bytes. */
 static inline gazhdor_field gazhdor_new_field(uint32_t number, uint32_t base_type, size_t count)
 {
-    static const uint8_t widths[17] = { 1, 1, 1, 2, 2, 4, 4, 1, 4, 8, 1, 2, 4, 1, 8, 8, 8 };
-    static const uint8_t kinds[17] = { GAZHDOR_UNSIGNED, GAZHDOR_SIGNED, GAZHDOR_UNSIGNED, GAZHDOR_SIGNED, GAZHDOR_UNSIGNED, GAZHDOR_SIGNED,
-        GAZHDOR_UNSIGNED, GAZHDOR_STRING, GAZHDOR_FLOAT, GAZHDOR_FLOAT, GAZHDOR_UNSIGNED, GAZHDOR_UNSIGNED, GAZHDOR_UNSIGNED, GAZHDOR_BYTES,
-        GAZHDOR_SIGNED, GAZHDOR_UNSIGNED, GAZHDOR_UNSIGNED };
-    const uint32_t zero = 1u << 7 | 1u << 10 | 1u << 11 | 1u << 12 | 1u << 16;
+    static const uint8_t widths[] = GAZHDOR_TYPE_WIDTHS, kinds[] = GAZHDOR_TYPE_KINDS;
     gazhdor_block nothing = { GAZHDOR_NULL, 0, 0, 0, 0, 0 };
     gazhdor_field field = gazhdor_field_at(nothing, 0);
-    uint32_t type = base_type & 31, width = type > 16 ? 0 : widths[type];
+    uint32_t type = base_type & 31, width = type < sizeof widths ? widths[type] : 0;
     if (width == 0 || base_type != (width > 1 ? 0x80 | type : type) || number > 255 || count > 255 / width)
         return field;
     uint64_t ones = ~GAZHDOR_CAST(uint64_t, 0) >> (64 - 8 * width);
     field.there = 1;
-    field.invalid = (zero >> type & 1) != 0 ? 0 : kinds[type] == GAZHDOR_SIGNED ? ones >> 1 : ones;
+    field.invalid = (GAZHDOR_TYPE_ZEROS >> type & 1) != 0 ? 0 : kinds[type] == GAZHDOR_SIGNED ? ones >> 1 : ones;
     field.scale = 1;
     field.number = GAZHDOR_CAST(uint8_t, number);
     field.base_type = GAZHDOR_CAST(uint8_t, base_type);

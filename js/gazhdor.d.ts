@@ -20,8 +20,8 @@ export type Kind = string | number
 export type Time = Date | string
 
 export type Reason =
-    | "HeaderSize" | "Protocol" | "NoFit" | "Signature" | "HeaderSum" | "ReservedBit" | "UndefinedLocal" | "Overrun" | "Architecture"
-    | "FileSum" | "TooManyFiles"
+    | "HeaderSize" | "Protocol" | "NoFit" | "Signature" | "HeaderSum" | "ReservedBit" | "UndefinedLocal" | "Overrun"
+    | "Architecture" | "FileSum" | "TooManyFiles"
 
 export type BlockReason =
     | "Cut" | "Kind" | "Header" | "Local" | "Architecture" | "Entries" | "Size" | "Offset" | "Undefined" | "Items"

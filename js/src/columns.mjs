@@ -1,8 +1,9 @@
 /* Columns of messages: typed arrays, filled from blocks where they lie in the module's memory. */
 import { OutOfMemory, TooManyCells } from "./answers.mjs"
 import { NO_TIME, SYSTEM_TIMES, degrees, milliseconds } from "./messages.mjs"
+import { FLOAT, SIGNED, UNSIGNED } from "./numbers.mjs"
 import { UnknownName, fieldsOf } from "./profile.mjs"
-import { FLOAT, SIGNED, UNSIGNED, labelOf, scaler } from "./values.mjs"
+import { labelOf, scaler } from "./values.mjs"
 
 /* So many cells may be there, however few of them have something, and so many times those that have. */
 const FEW_CELLS = 1 << 22

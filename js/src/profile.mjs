@@ -4,22 +4,35 @@
 export const PROFILE = {
     file_id: [0, ["type", "manufacturer", "product", "serial_number", "time_created", "number", "product_name"]],
     sport: [12, ["sport", "sub_sport", "name"]],
-    session: [18, ["event", "event_type", "start_time", "start_position_lat", "start_position_long", "sport", "sub_sport", "total_elapsed_time",
-        "total_timer_time", "total_distance", "total_cycles", "total_calories", "avg_speed", "max_speed", "avg_heart_rate", "max_heart_rate",
-        "avg_cadence", "max_cadence", "avg_power", "max_power", "total_ascent", "total_descent", "first_lap_index", "num_laps", "trigger"]],
-    lap: [19, ["event", "event_type", "start_time", "start_position_lat", "start_position_long", "end_position_lat", "end_position_long",
-        "total_elapsed_time", "total_timer_time", "total_distance", "total_cycles", "total_calories", "avg_speed", "max_speed", "avg_heart_rate",
-        "max_heart_rate", "avg_cadence", "max_cadence", "avg_power", "max_power", "total_ascent", "total_descent", "intensity", "lap_trigger", "sport"]],
-    record: [20, ["position_lat", "position_long", "altitude", "heart_rate", "cadence", "distance", "speed", "power", "compressed_speed_distance",
-        "grade", "time_from_course", "temperature", "cycles", "total_cycles", "compressed_accumulated_power", "accumulated_power", "vertical_speed",
-        "calories", "vertical_oscillation", "stance_time", "enhanced_speed", "enhanced_altitude"]],
+    session: [18, [
+        "event", "event_type", "start_time", "start_position_lat", "start_position_long", "sport", "sub_sport",
+        "total_elapsed_time", "total_timer_time", "total_distance", "total_cycles", "total_calories", "avg_speed",
+        "max_speed", "avg_heart_rate", "max_heart_rate", "avg_cadence", "max_cadence", "avg_power", "max_power",
+        "total_ascent", "total_descent", "first_lap_index", "num_laps", "trigger",
+    ]],
+    lap: [19, [
+        "event", "event_type", "start_time", "start_position_lat", "start_position_long", "end_position_lat",
+        "end_position_long", "total_elapsed_time", "total_timer_time", "total_distance", "total_cycles", "total_calories",
+        "avg_speed", "max_speed", "avg_heart_rate", "max_heart_rate", "avg_cadence", "max_cadence", "avg_power",
+        "max_power", "total_ascent", "total_descent", "intensity", "lap_trigger", "sport",
+    ]],
+    record: [20, [
+        "position_lat", "position_long", "altitude", "heart_rate", "cadence", "distance", "speed", "power",
+        "compressed_speed_distance", "grade", "time_from_course", "temperature", "cycles", "total_cycles",
+        "compressed_accumulated_power", "accumulated_power", "vertical_speed", "calories", "vertical_oscillation",
+        "stance_time", "enhanced_speed", "enhanced_altitude",
+    ]],
     event: [21, ["event", "event_type", "data16", "data", "event_group"]],
-    device_info: [23, ["device_index", "device_type", "manufacturer", "serial_number", "product", "software_version", "hardware_version",
-        "cum_operating_time", "battery_voltage", "battery_status"]],
+    device_info: [23, [
+        "device_index", "device_type", "manufacturer", "serial_number", "product", "software_version", "hardware_version",
+        "cum_operating_time", "battery_voltage", "battery_status",
+    ]],
     activity: [34, ["total_timer_time", "num_sessions", "type", "event", "event_type", "local_timestamp"]],
     file_creator: [49, ["software_version", "hardware_version"]],
     hrv: [78, ["time"]],
-    field_description: [206, ["developer_data_index", "field_definition_number", "fit_base_type_id", "field_name", "units"]],
+    field_description: [206, [
+        "developer_data_index", "field_definition_number", "fit_base_type_id", "field_name", "units",
+    ]],
     developer_data_id: [207, ["application_id", "developer_data_index", "application_version"]],
 }
 

@@ -1,6 +1,6 @@
 /* What the items of a field stand for, and the field as its definition has it: an entry of docs/BLOCKS.md. */
 
-export const [UNSIGNED, SIGNED, FLOAT, TEXT, BYTES] = [0, 1, 2, 3, 4]
+import { BYTES, FLOAT, SIGNED, STRING } from "./numbers.mjs"
 
 const utf8 = new TextDecoder("utf-8", { ignoreBOM: true })
 
@@ -86,7 +86,7 @@ export class Entry {
 function reader(entry) {
     const { begins, count, width, invalid } = entry
     if (count === 0) return () => null
-    if (entry.kind === TEXT) return ({ bytes }, at) => textAt(bytes, at + begins, at + begins + count)
+    if (entry.kind === STRING) return ({ bytes }, at) => textAt(bytes, at + begins, at + begins + count)
     if (entry.kind === BYTES)
         return ({ bytes }, at) => {
             const data = bytes.slice(at + begins, at + begins + count)
@@ -99,7 +99,7 @@ function reader(entry) {
 
 /* The items as the file has them, of floats their bits; all bytes of a text or of bytes. */
 export function rawOf(entry, { view, bytes }, at) {
-    if (entry.kind >= TEXT) return bytes.slice(at + entry.begins, at + entry.begins + entry.count)
+    if (entry.kind >= STRING) return bytes.slice(at + entry.begins, at + entry.begins + entry.count)
     const read = entry.kind === FLOAT ? entry.bits : entry.item
     const items = Array.from({ length: entry.count }, (_, k) => {
         const item = read(view, at + entry.begins + k * entry.width)

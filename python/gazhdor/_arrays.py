@@ -1,8 +1,8 @@
 """The items of arrays of numpy, all at once."""
 from typing import Any, List, Optional
 
-from ._bases import FLOAT
 from ._items import CLEAR, SURE, Packer
+from ._numbers import FLOAT
 from ._times import EPOCH, SYSTEM_TIMES
 
 _UNIX = int(EPOCH.timestamp())

@@ -2,8 +2,8 @@
 import importlib
 from typing import Any, Callable, Dict, Iterable, List, NamedTuple, Optional, Set
 
-from ._bases import FLOAT
 from ._names import Told, names_of
+from ._numbers import FLOAT
 from ._parts import DATE, DEGREES, LOCAL, VALUE, Asked, Cell, Part, Piece, Table, told
 from ._profile import Kind
 from ._sources import Source

@@ -10,7 +10,7 @@ import struct
 from fractions import Fraction
 from typing import Any, Dict, List, Optional, Tuple
 
-from ._bases import BYTES, FLOAT, SIGNED, TEXT
+from ._numbers import BYTES, FLOAT, SIGNED, STRING
 from ._times import EPOCH, SYSTEM_TIMES, when
 from ._values import Definition, Entry, as_value, degrees, label
 from .errors import WrongValue
@@ -190,7 +190,7 @@ class Packer:
             return self._pack(self.item(value))
         if value is None:
             return self.none
-        if entry.kind == TEXT:
+        if entry.kind == STRING:
             return self._text(value)
         if entry.kind == BYTES:
             return self._bytes(value)

@@ -2,8 +2,9 @@
 import struct
 from typing import Dict, Iterable, List, NamedTuple, Optional, Tuple
 
-from ._bases import BYTES, Base, base_of
+from ._bases import Base, base_of
 from ._names import Names
+from ._numbers import BYTES
 from ._profile import Info, info_of, name_of
 from ._values import Definition, Key, told
 

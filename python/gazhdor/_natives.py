@@ -1,7 +1,7 @@
 """The fields that developer fields stand for, as field description messages say it (FIT protocol, "Developer Fields")."""
 from typing import Dict, Optional, Tuple
 
-from ._bases import SIGNED
+from ._numbers import SIGNED
 from ._values import Definition, Developer, Entry, developers
 
 DESCRIPTION, DEVELOPER_DATA = OF_DEVELOPERS = 206, 207

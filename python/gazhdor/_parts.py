@@ -3,9 +3,9 @@ import datetime
 from itertools import repeat
 from typing import Any, Dict, Iterable, Iterator, List, NamedTuple, Optional, Tuple
 
-from ._bases import FLOAT
 from ._blocks import Walk
 from ._names import Names
+from ._numbers import FLOAT
 from ._profile import Kind, see_fields
 from ._sources import Source
 from ._streams import each

@@ -4,8 +4,8 @@ import datetime
 from typing import Any, Dict, List, Mapping, Optional
 
 from ._arrays import is_array, items_of_array, items_of_list
-from ._bases import FLOAT, TEXT
 from ._items import CLEAR, SURE, Packer
+from ._numbers import FLOAT, STRING
 from ._times import EPOCH, SYSTEM_TIMES
 from .errors import WrongValue
 
@@ -34,7 +34,7 @@ def is_of_numbers(column: Any) -> bool:
 def put_column(block: bytearray, length: int, pack: Packer, column: Any) -> None:
     """Puts the values of a column into the blocks of messages, each of that length."""
     entry = pack.entry
-    if entry.count != 1 or entry.kind >= TEXT:
+    if entry.count != 1 or entry.kind >= STRING:
         _put_bytes(block, length, pack, column)
         return
     items = items_of_array(pack, column) if is_array(column) else items_of_list(pack, column)

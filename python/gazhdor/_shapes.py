@@ -1,10 +1,11 @@
 """What a caller says of a message that is to be written: its fields, and how many items each has."""
 from typing import Any, Dict, Iterable, List, NamedTuple, Optional, Tuple, Union
 
-from ._bases import BYTES, TEXT, Base, base_named, base_of
+from ._bases import Base, base_named, base_of
 from ._items import several, text_bytes
 from ._layout import FieldDefinition, Form, form_of
 from ._names import Names
+from ._numbers import BYTES, STRING
 from ._profile import Info, Kind, UnknownName, fields_of, info_of, name_of, number_of, profile
 from ._values import Key, label
 
@@ -48,7 +49,7 @@ class Shape(NamedTuple):
         """A value, whose items may come one after another, and the size that it needs."""
         if self.size is not None or value is None:
             return value, size
-        if self.base.kind == TEXT:
+        if self.base.kind == STRING:
             data = text_bytes(value, label(self.key))
             return value, min(255, max(size, len(data) + (not data.endswith(b"\0"))))
         if self.base.kind == BYTES:

@@ -3,8 +3,8 @@ import struct
 from decimal import Decimal
 from typing import Any, Callable, Dict, List, Mapping, NamedTuple, Optional, Tuple, Union, overload
 
-from ._bases import BYTES, FLOAT, SIGNED, TEXT, UNSIGNED
 from ._names import RESERVED, Named, Names
+from ._numbers import BYTES, FLOAT, SIGNED, STRING, UNSIGNED
 from ._profile import fields_of
 
 Number = Union[int, float]
@@ -145,7 +145,7 @@ def reader(entry: Entry) -> Reader:
     """What reads the value of a field in the block of a message."""
     if entry.count == 0:
         return lambda block: None
-    if entry.kind == TEXT:
+    if entry.kind == STRING:
         return _text_reader(entry)
     if entry.kind == BYTES:
         return _bytes_reader(entry)
@@ -211,7 +211,7 @@ def _several_reader(entry: Entry) -> Reader:
 
 def read_raw(entry: Entry, block: bytes) -> Raw:
     """The items as the file has them, the bits of floats as a number."""
-    if entry.kind >= TEXT:
+    if entry.kind >= STRING:
         return block[entry.begins : entry.begins + entry.count]
     items: Tuple[int, ...] = struct.unpack_from(f"<{entry.count}{entry.item_code}", block, entry.begins)
     return items[0] if entry.count == 1 else items

@@ -1,4 +1,5 @@
-//! The base types of fields.
+//! The base types of fields. The table in it is written by profile/make.
+use crate::numbers::BASE_TYPES;
 
 /// The base type of a field, of which the FIT protocol has seventeen.
 #[derive(Debug, Clone, Copy, PartialEq, Eq, Hash)]
@@ -39,43 +40,28 @@ pub enum BaseType {
     Uint64z = 0x90,
 }
 
-/// Each with its name in the FIT protocol, the width of an item, what the items stand for, and the item that stands for no value.
-const TYPES: [(BaseType, &str, u8, u8, u64); 17] = [
-    (BaseType::Enum, "enum", 1, UNSIGNED, 0xFF),
-    (BaseType::Sint8, "sint8", 1, SIGNED, 0x7F),
-    (BaseType::Uint8, "uint8", 1, UNSIGNED, 0xFF),
-    (BaseType::String, "string", 1, TEXT, 0),
-    (BaseType::Uint8z, "uint8z", 1, UNSIGNED, 0),
-    (BaseType::Byte, "byte", 1, BYTES, 0xFF),
-    (BaseType::Sint16, "sint16", 2, SIGNED, 0x7FFF),
-    (BaseType::Uint16, "uint16", 2, UNSIGNED, 0xFFFF),
-    (BaseType::Sint32, "sint32", 4, SIGNED, 0x7FFF_FFFF),
-    (BaseType::Uint32, "uint32", 4, UNSIGNED, 0xFFFF_FFFF),
-    (BaseType::Float32, "float32", 4, FLOAT, 0xFFFF_FFFF),
-    (BaseType::Float64, "float64", 8, FLOAT, u64::MAX),
-    (BaseType::Uint16z, "uint16z", 2, UNSIGNED, 0),
-    (BaseType::Uint32z, "uint32z", 4, UNSIGNED, 0),
-    (BaseType::Sint64, "sint64", 8, SIGNED, 0x7FFF_FFFF_FFFF_FFFF),
-    (BaseType::Uint64, "uint64", 8, UNSIGNED, u64::MAX),
-    (BaseType::Uint64z, "uint64z", 8, UNSIGNED, 0),
-];
-
-/// What the items of a field stand for, as docs/BLOCKS.md numbers it.
-pub(crate) const UNSIGNED: u8 = 0;
-pub(crate) const SIGNED: u8 = 1;
-pub(crate) const FLOAT: u8 = 2;
-pub(crate) const TEXT: u8 = 3;
-pub(crate) const BYTES: u8 = 4;
+/// What is known of a base type.
+pub(crate) struct BaseRow {
+    pub(crate) base_type: BaseType,
+    /// Its name in the FIT protocol.
+    pub(crate) name: &'static str,
+    /// What its items stand for.
+    pub(crate) kind: u8,
+    /// The bytes of an item.
+    pub(crate) width: u8,
+    /// The item that stands for no value.
+    pub(crate) invalid: u64,
+}
 
 impl BaseType {
     /// That of a code, as [`Field::base_type`](crate::Field::base_type) gives it.
     pub fn of(code: u8) -> Option<BaseType> {
-        TYPES.iter().map(|row| row.0).find(|&of| of.code() == code)
+        BASE_TYPES.iter().map(|row| row.base_type).find(|&of| of.code() == code)
     }
 
     /// That of a name, as `uint8`.
     pub fn named(name: &str) -> Option<BaseType> {
-        TYPES.iter().find(|row| row.1 == name).map(|row| row.0)
+        BASE_TYPES.iter().find(|row| row.name == name).map(|row| row.base_type)
     }
 
     /// Its code in definition messages.
@@ -85,23 +71,23 @@ impl BaseType {
 
     /// Its name in the FIT protocol, as `uint8`.
     pub fn name(self) -> &'static str {
-        self.row().1
+        self.row().name
     }
 
     /// How many bytes an item has.
     pub fn width(self) -> u8 {
-        self.row().2
+        self.row().width
     }
 
     pub(crate) fn kind(self) -> u8 {
-        self.row().3
+        self.row().kind
     }
 
     pub(crate) fn invalid(self) -> u64 {
-        self.row().4
+        self.row().invalid
     }
 
-    fn row(self) -> &'static (BaseType, &'static str, u8, u8, u64) {
-        TYPES.iter().find(|row| row.0 == self).expect("each base type has its row")
+    fn row(self) -> &'static BaseRow {
+        BASE_TYPES.iter().find(|row| row.base_type == self).expect("each base type has its row")
     }
 }

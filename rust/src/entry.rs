@@ -1,6 +1,7 @@
 //! The entry of a field in the block of a definition, as docs/BLOCKS.md has it.
-use crate::base_type::{BaseType, SIGNED};
+use crate::base_type::BaseType;
 use crate::names::Named;
+use crate::numbers::SIGNED;
 
 /// What the entry of a field says.
 pub(crate) struct Entry {

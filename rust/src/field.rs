@@ -1,7 +1,7 @@
 //! A field of a message, and its values.
-use crate::base_type::{BYTES, FLOAT, SIGNED, TEXT};
 use crate::blocks::{eight, four, some, text, two, up_to_zero};
 use crate::names::{Named, Names};
+use crate::numbers::{BYTES, FLOAT, SIGNED, STRING};
 use crate::steps::Measure;
 use std::fmt::{self, Debug, Formatter};
 use std::str;
@@ -176,7 +176,7 @@ impl<'a> Field<'a> {
     }
 
     pub(crate) fn is_lone_number(&self) -> bool {
-        self.count() == 1 && !matches!(self.kind(), TEXT | BYTES)
+        self.count() == 1 && !matches!(self.kind(), STRING | BYTES)
     }
 
     /// The item that stands for no value.
@@ -193,7 +193,7 @@ impl<'a> Field<'a> {
     pub fn raw(&self, k: usize) -> Option<Raw> {
         let (bits, width) = (self.bits(k)?, self.entry[9]);
         match self.entry[8] {
-            TEXT | BYTES => Some(Raw::Byte(self.items[k])),
+            STRING | BYTES => Some(Raw::Byte(self.items[k])),
             FLOAT if width == 4 => Some(Raw::Float32(bits as u32)),
             FLOAT => Some(Raw::Float64(bits)),
             SIGNED => {
@@ -224,7 +224,7 @@ impl<'a> Field<'a> {
     /// What the whole field stands for.
     pub fn whole(&self) -> Value<'a> {
         match (self.entry[8], self.count()) {
-            (TEXT, _) => match (self.text(), up_to_zero(self.items)) {
+            (STRING, _) => match (self.text(), up_to_zero(self.items)) {
                 (Some(text), _) => Value::Text(text),
                 (None, []) => Value::None,
                 (None, bytes) => Value::Bytes(bytes),
@@ -245,7 +245,7 @@ impl<'a> Field<'a> {
 
     /// The text of a text field, up to its first zero; none where it is empty or isn't UTF-8.
     pub fn text(&self) -> Option<&'a str> {
-        (self.entry[8] == TEXT).then(|| text(self.items, 0)).flatten()
+        (self.entry[8] == STRING).then(|| text(self.items, 0)).flatten()
     }
 
     /// The bytes of all items, one after another: of numbers in little endian, whatever the file has.

@@ -1,12 +1,12 @@
 //! Values as the items of a field.
-use crate::base_type::{BYTES, FLOAT, SIGNED, TEXT};
 use crate::field::{Field, Raw, Value};
+use crate::numbers::{BYTES, FLOAT, SIGNED, STRING};
 use crate::unfit::{label, shown, Unfit};
 
 /// The bits of one item of a field of numbers.
 pub(crate) fn number(field: &Field<'_>, value: Value<'_>) -> Result<u64, Unfit> {
     match value {
-        _ if field.kind() == TEXT => Err(kind(field, &value, "a text")),
+        _ if field.kind() == STRING => Err(kind(field, &value, "a text")),
         _ if field.kind() == BYTES => Err(kind(field, &value, "bytes")),
         Value::None => Ok(field.invalid()),
         Value::Unsigned(_) | Value::Signed(_) | Value::Float(_) if field.kind() == FLOAT => float(field, value),
@@ -20,10 +20,10 @@ pub(crate) fn number(field: &Field<'_>, value: Value<'_>) -> Result<u64, Unfit> 
 /// All items of a field, one after another.
 pub(crate) fn all(field: &Field<'_>, value: Value<'_>) -> Result<Vec<u8>, Unfit> {
     match (field.kind(), value) {
-        (TEXT, Value::None) => Ok(vec![0; field.count()]),
-        (TEXT, Value::Text(text)) => texts(field, text.as_bytes(), value),
-        (TEXT, Value::Bytes(bytes)) => texts(field, bytes, value),
-        (TEXT, _) => Err(kind(field, &value, "a text")),
+        (STRING, Value::None) => Ok(vec![0; field.count()]),
+        (STRING, Value::Text(text)) => texts(field, text.as_bytes(), value),
+        (STRING, Value::Bytes(bytes)) => texts(field, bytes, value),
+        (STRING, _) => Err(kind(field, &value, "a text")),
         (BYTES, Value::None) => Ok(vec![field.invalid() as u8; field.count()]),
         (BYTES, Value::Bytes(bytes)) => as_they_are(field, bytes, value),
         (BYTES, _) => Err(kind(field, &value, "bytes")),
@@ -39,11 +39,11 @@ pub(crate) fn all(field: &Field<'_>, value: Value<'_>) -> Result<Vec<u8>, Unfit>
 pub(crate) fn raw(field: &Field<'_>, item: Raw) -> Result<u64, Unfit> {
     let (kind, width) = (field.kind(), field.width());
     let bits = match item {
-        Raw::Byte(byte) if kind == TEXT || kind == BYTES => Some(byte.into()),
+        Raw::Byte(byte) if kind == STRING || kind == BYTES => Some(byte.into()),
         Raw::Float32(bits) if kind == FLOAT && width == 4 => Some(bits.into()),
         Raw::Float64(bits) if kind == FLOAT && width == 8 => Some(bits),
         Raw::Signed(number) if kind == SIGNED => within(field, number.into()),
-        Raw::Unsigned(number) if !matches!(kind, TEXT | BYTES | FLOAT | SIGNED) => within(field, number.into()),
+        Raw::Unsigned(number) if !matches!(kind, STRING | BYTES | FLOAT | SIGNED) => within(field, number.into()),
         _ => None,
     };
     bits.ok_or_else(|| Unfit::Kind {

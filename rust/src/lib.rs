@@ -37,6 +37,7 @@ mod items;
 mod library;
 mod message;
 mod names;
+mod numbers;
 mod reason;
 mod steps;
 mod streams;
