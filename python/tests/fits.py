@@ -7,6 +7,8 @@ import decimal
 import io
 import struct
 
+import support  # it has gazhdor found
+
 import gazhdor
 
 # ---- files, written as the FIT protocol has them

@@ -2,8 +2,9 @@
 import io
 import struct
 
+from fits import checksum
+
 import gazhdor
-from python_fits import checksum
 
 
 def written(*steps, **how):

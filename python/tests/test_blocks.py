@@ -1,4 +1,4 @@
-"""Whether `from_blocks` answers as tests/block_model.py does, which has the page docs/BLOCKS.md alone: of the blocks of known files, of those
+"""Whether `from_blocks` answers as block_model.py does, which has the page docs/BLOCKS.md alone: of the blocks of known files, of those
 files, cut at each byte, and with each byte and number of their blocks changed."""
 import io
 import os
@@ -8,11 +8,12 @@ import struct
 import tempfile
 import unittest
 
+from support import BYTES, RIDE
+from fits import BYTE, DESCRIBE, SMALL, STRING, UINT16, UINT32, UINT8, any_file, define, describe, fit, packed
 import block_model
-import gazhdor
-from python_fits import BYTE, DESCRIBE, SMALL, STRING, UINT8, UINT16, UINT32, any_file, define, describe, fit, packed
 
-RIDE = "examples/ride.fit"
+import gazhdor
+
 FULL = os.environ.get("GAZHDOR_FULL") == "1"
 
 
@@ -40,9 +41,7 @@ class Blocks(unittest.TestCase):
 
     def test_files(self):
         """Blocks of files come back to their bytes, by the model too."""
-        files = [TELLING, CHAIN, SMALL, 3 * SMALL]
-        with open(RIDE, "rb") as file:
-            files.append(file.read())
+        files = [TELLING, CHAIN, SMALL, 3 * SMALL, BYTES]
         r = random.Random(5)
         files += [any_file(r) for _ in range(60)]
         for data in files:

@@ -15,25 +15,18 @@ import threading
 import unittest
 import xml.etree.ElementTree
 
+from support import BYTES, RIDE, VERSION, example, folder, in_tree, left_out, run
+
 import gazhdor
 
-RIDE = "examples/ride.fit"
-WORK = sys.argv.pop()
-with open(RIDE, "rb") as file:
-    BYTES = file.read()
-with open("VERSION") as file:
-    VERSION = file.read().strip()
+WORK = folder()
 
 
 def points():
     name = "{http://www.topografix.com/GPX/1/1}"
-    for point in xml.etree.ElementTree.parse("examples/ride.gpx").iter(name + "trkpt"):
+    for point in xml.etree.ElementTree.parse(in_tree("examples/ride.gpx")).iter(name + "trkpt"):
         when = datetime.datetime.fromisoformat(point.find(name + "time").text.replace("Z", "+00:00"))
         yield when, float(point.get("lat")), float(point.get("lon")), float(point.find(name + "ele").text)
-
-
-def run(*words, **how):
-    return subprocess.run([sys.executable, *words], stdout=subprocess.PIPE, stderr=subprocess.PIPE, **how)
 
 
 class Checks(unittest.TestCase):
@@ -278,7 +271,7 @@ class Shell(unittest.TestCase):
             with open(path, "wb") as file:
                 file.write(BYTES)
             for language in ("C", "C.UTF-8"):
-                how = dict(cwd=WORK, env=dict(os.environ, PYTHONPATH=os.path.abspath("python"), LC_ALL=language, PYTHONIOENCODING="ascii:strict"))
+                how = dict(cwd=WORK, env=dict(os.environ, LC_ALL=language, PYTHONIOENCODING="ascii:strict"))
                 done = run("-m", "gazhdor", "check", "--", name, **how)
                 self.assertEqual((done.returncode, done.stdout, done.stderr), (0, name + b": ok, 1 file\n", b""))
             os.remove(path)
@@ -335,7 +328,7 @@ class Examples(unittest.TestCase):
     def test_many_rides(self):
         """Ten rides of two minutes, one that is cut, one that isn't there, and odd ones, loaded by two processes."""
         folder, database = os.path.join(WORK, "rides"), os.path.join(WORK, "rides.db")
-        self.assertEqual(run("examples/python/make_rides.py", folder, "10", "2").returncode, 0)
+        self.assertEqual(run(example("make_rides.py"), folder, "10", "2").returncode, 0)
         paths = sorted(os.path.join(folder, name) for name in os.listdir(folder))
         self.assertEqual(len(paths), 10)
         cut = os.path.join(WORK, "cut.fit")
@@ -343,7 +336,7 @@ class Examples(unittest.TestCase):
             file.write(whole.read()[:1000])
         none = os.path.join(WORK, "none.fit")
         odd = [self.odd(size, cell, time) for size, cell, time in ((1, "60", 77), (2, "60|61", 1000000000), (2, "|60", 1000000000))]
-        done = run("examples/python/load_rides.py", database, "2", *paths, cut, none, *odd)
+        done = run(example("load_rides.py"), database, "2", *paths, cut, none, *odd)
         self.assertEqual((done.returncode, done.stderr), (0, b""))
         self.assertIn(b"15 files, 2 not good, 1", done.stdout)
         with sqlite3.connect(database) as into:
@@ -358,14 +351,13 @@ class Examples(unittest.TestCase):
                 self.compare(found, path)
         into.close()
         # It fills no database that is there already.
-        done = run("examples/python/load_rides.py", database, "2", cut)
+        done = run(example("load_rides.py"), database, "2", cut)
         self.assertEqual((done.returncode, done.stderr), (1, f"load_rides.py: {database} is there already\n".encode()))
 
     def test_pandas(self):
         if run("-c", "import pandas").returncode:
-            print("tests/python: there is no pandas, so its example isn't tried", file=sys.stderr)
-            self.skipTest("there is no pandas")
-        done = run("examples/python/pandas_table.py", RIDE)
+            left_out("there is no pandas, so its example isn't tried")
+        done = run(example("pandas_table.py"), RIDE)
         self.assertEqual(done.returncode, 0, done.stderr)
         self.assertIn(b"datetime64[ns, UTC]", done.stdout)
 

@@ -1,4 +1,4 @@
-"""What the lists, the arrays and the lines of JSON of the module gazhdor must be: those of its messages, of which tests/python_messages.py sees
+"""What the lists, the arrays and the lines of JSON of the module gazhdor must be: those of its messages, of which python/tests/test_messages.py sees
 what they are."""
 import contextlib
 import datetime
@@ -13,15 +13,17 @@ import sys
 import unittest
 import warnings
 
+from support import BYTES, RIDE, left_out
+from fits import (
+    BYTE, DESCRIBE, FLOAT32, NONE4, SINT32, SMALL, STRING, UINT16, UINT32, UINT8, any_file, as_text, define, describe,
+    fit, label_of, packed,
+)
+
 import gazhdor
-from python_fits import *
-
-RIDE = "examples/ride.fit"
-with open(RIDE, "rb") as file:
-    BYTES = file.read()
 
 
-def numpy_or(case, *names):
+
+def numpy_or(*names):
     """The first of these modules. Where one isn't installed the case is left out, which is said."""
     for name in names:
         try:
@@ -29,8 +31,7 @@ def numpy_or(case, *names):
                 warnings.simplefilter("ignore")
                 __import__(name)
         except ModuleNotFoundError:
-            print(f"tests/python: there is no {name}, so what gazhdor makes for it isn't tried", file=sys.stderr)
-            case.skipTest(name)
+            left_out(f"there is no {name}, so what gazhdor makes for it isn't tried")
     return sys.modules[names[0]]
 
 
@@ -138,7 +139,7 @@ class Columns(unittest.TestCase):
                     self.assertTrue(abs(value) > 2**43 and math.isclose(number, value, rel_tol=1e-15))
 
     def test_columns(self):
-        numpy = numpy_or(self, "numpy")
+        numpy = numpy_or("numpy")
         r = random.Random(20260103)
         for source in [*self.sources, *(b"".join(any_file(r) for _ in range(3)) for _ in range(20))]:
             for keys in (self.keys(source), None):
@@ -163,10 +164,10 @@ class Columns(unittest.TestCase):
         self.assertEqual(gazhdor.lists(TIMES, "activity", ["local_timestamp"], times=True), {"local_timestamp": [datetime.datetime(2021, 9, 8, 3, 46, 40)]})
         self.assertEqual(gazhdor.lists(TIMES, "lap", ["start_time"]), {"start_time": [1000000000, 77, None]})
         self.assertIsNone(gazhdor.when(None))
-        numpy = numpy_or(self, "numpy")
+        numpy = numpy_or("numpy")
         starts = gazhdor.columns(TIMES, "lap", ["start_time"], times=True)["start_time"]
         self.assertEqual((str(starts.dtype), str(starts[0]), numpy.isnat(starts[1:]).all()), ("datetime64[s]", "2021-09-08T01:46:40", True))
-        numpy_or(self, "pandas")
+        numpy_or("pandas")
         self.assertEqual(str(gazhdor.frame(TIMES, "lap", ["start_time"], times=True)["start_time"].dtype), "datetime64[ns, UTC]")
         self.assertEqual(str(gazhdor.frame(TIMES, "activity", ["local_timestamp"], times=True)["local_timestamp"].iloc[0]), "2021-09-08 03:46:40")
 
@@ -185,7 +186,7 @@ class Columns(unittest.TestCase):
         source = fit(define(0, 20, [(253, 4, UINT32), (3, 1, UINT8)]), packed("<BIB", 0, NONE4, 60), packed("<BIB", 0, NONE4, 61))
         self.assertEqual(gazhdor.lists(source, "record"), {"timestamp": [None, None], "heart_rate": [60, 61]})
         self.assertEqual(gazhdor.lists(fit(define(0, 20, [(3, 1, UINT8)]), b"\0\x3c"), "record"), {"heart_rate": [60]})
-        numpy_or(self, "numpy")
+        numpy_or("numpy")
         self.assertEqual(list(gazhdor.columns(source, "record")), ["timestamp", "heart_rate"])
 
     def test_hostile_names(self):
@@ -206,7 +207,7 @@ class Columns(unittest.TestCase):
 
     def test_labels(self):
         """Labels of developer fields that differ by the case of letters alone are told apart, as databases want it."""
-        numpy_or(self, "pandas", "numpy")
+        numpy_or("pandas", "numpy")
         source = fit(DESCRIBE, *(describe(0, k, UINT8, name, b"") for k, name in enumerate((b"Power", b"power", b"POWER", b"Heart_Rate", b"Own"))),
             define(0, 20, [(3, 1, UINT8)], [(k, 1, 0) for k in range(5)]), bytes([0, 60, 1, 2, 3, 4, 5]))
         table = gazhdor.frame(source, "record")
@@ -243,7 +244,7 @@ print(resource.getrusage(resource.RUSAGE_SELF).ru_maxrss)
         self.assertEqual({len(column) for column in gazhdor.lists(wide, "record").values()}, {200})
 
     def test_frame(self):
-        numpy_or(self, "pandas", "numpy")
+        numpy_or("pandas", "numpy")
         found = gazhdor.frame(b"".join(MIXED), "record")
         self.assertEqual(str(found["timestamp"].dtype), "datetime64[ns, UTC]")
         self.assertEqual((len(found), found["power"].max(), found["timestamp"].iloc[0].isoformat()), (87, 200.0, "2021-09-08T01:46:40+00:00"))

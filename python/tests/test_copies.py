@@ -1,43 +1,27 @@
 """Whether what is read from files is written back through values, and by copies, to the same bytes."""
 import io
-import os
 import random
-import shutil
-import subprocess
-import sys
 import unittest
 
+from support import BYTES, bytes_at, recording
+from fits import SMALL, any_file
+from made import copied, through_values, written
+
 import gazhdor
-from python_fits import SMALL, any_file
-from python_made import copied, through_values, written
 
-WORK = sys.argv.pop()
-RIDE = "examples/ride.fit"
 KINDS = ("plain", "developer", "compressed", "turns", "definitions", "strings", "interleaved", "small")
-
-
-def recordings():
-    if not shutil.which("cc"):
-        raise unittest.SkipTest("there is no cc")
-    recording = os.path.join(WORK, "recording")
-    subprocess.run(["cc", "-O1", "-o", recording, "bench/recording.c"], check=True)
-    for kind in KINDS:
-        subprocess.run([recording, kind, "40k", recording + ".fit"], check=True)
-        with open(recording + ".fit", "rb") as file:
-            yield kind, file.read()
 
 
 class BothWays(unittest.TestCase):
     def test_ride(self):
-        with open(RIDE, "rb") as file:
-            data = file.read()
-        for chain in (data, 2 * data, SMALL, SMALL + data):
+        for chain in (BYTES, 2 * BYTES, SMALL, SMALL + BYTES):
             self.assertEqual(through_values(chain), chain)
             self.assertEqual(copied(chain), chain)
 
     def test_recordings(self):
         """Each kind of recording, through its values and back to the same bytes."""
-        for kind, data in recordings():
+        for kind in KINDS:
+            data = bytes_at(recording(kind, "40k"))
             with self.subTest(kind):
                 self.assertEqual(through_values(data), data)
                 self.assertEqual(through_values(data, gazhdor.EXTRA), data)

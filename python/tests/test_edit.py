@@ -9,11 +9,12 @@ import subprocess
 import sys
 import unittest
 
-import gazhdor
-from python_fits import DESCRIBE, SINT32, UINT8, UINT16, UINT32, any_file, define, describe, fit, packed
+from support import BYTES, RIDE, bytes_at, example, folder, in_tree, left_out, run
+from fits import DESCRIBE, SINT32, UINT16, UINT32, UINT8, any_file, define, describe, fit, packed
 
-RIDE = "examples/ride.fit"
-WORK = sys.argv.pop()
+import gazhdor
+
+WORK = folder()
 EPOCH = datetime.datetime(1989, 12, 31, tzinfo=datetime.timezone.utc)
 START = 1147937400  # the first record of the ride
 HOUR = 3600
@@ -24,12 +25,8 @@ def at(name):
     return os.path.join(WORK, name)
 
 
-def run(*words, **how):
-    return subprocess.run([sys.executable, *words], stdout=subprocess.PIPE, stderr=subprocess.PIPE, encoding="utf-8", **how)
-
-
-def command(*words, status=0):
-    done = run("-m", "gazhdor", *words)
+def command(*words, status=0, **how):
+    done = run("-m", "gazhdor", *words, encoding="utf-8", **how)
     assert done.returncode == status, (words, done)
     return done
 
@@ -48,9 +45,9 @@ class Edit(unittest.TestCase):
     def test_nothing(self):
         """Without a change each file is as it was."""
         r = random.Random(1)
-        for data in [open_bytes(RIDE), *(any_file(r) for _ in range(20))]:
+        for data in [BYTES, *(any_file(r) for _ in range(20))]:
             command("edit", write("in.fit", data), at("out.fit"))
-            self.assertEqual(open_bytes(at("out.fit")), data)
+            self.assertEqual(bytes_at(at("out.fit")), data)
 
     def test_shift(self):
         for hours in (1, -3, 1000):
@@ -60,7 +57,7 @@ class Edit(unittest.TestCase):
                 self.assertEqual(dict(after), {**dict(before), **moved})
         command("edit", "--shift", "-3600", RIDE, at("out.fit"))
         command("edit", "--shift", "3600", at("out.fit"), at("out.fit"))
-        self.assertEqual(open_bytes(at("out.fit")), open_bytes(RIDE))
+        self.assertEqual(bytes_at(at("out.fit")), BYTES)
 
     def test_shift_in_headers(self):
         """Times in compressed headers move with the timestamps before them; the device's own time stays."""
@@ -108,7 +105,7 @@ class Edit(unittest.TestCase):
         self.assertIn("no record has a time in that span", done.stderr)
 
     def test_faults(self):
-        bad = write("bad.fit", open_bytes(RIDE)[:-1])
+        bad = write("bad.fit", BYTES[:-1])
         for words, status, said in (
             (["edit", bad, at("none.fit")], 1, "truncated at byte"),
             (["edit", RIDE], 2, "IN and OUT"),
@@ -127,11 +124,11 @@ class Edit(unittest.TestCase):
         ):
             self.assertIn(said, command(*words, status=status).stderr, words)
             self.assertFalse(os.path.exists(at("none.fit")))
-        self.assertEqual(command("edit", "--", RIDE, "--out.fit").returncode, 0)
-        os.unlink("--out.fit")
+        command("edit", "--", RIDE, "--out.fit", cwd=WORK)
+        self.assertEqual(bytes_at(at("--out.fit")), BYTES)
         words = [sys.executable, "-m", "gazhdor", "edit", "-", "-"]
-        self.assertEqual(subprocess.run(words, input=open_bytes(RIDE), stdout=subprocess.PIPE).stdout, open_bytes(RIDE))
-        done = subprocess.run([*words, "--shift", "7"], input=open_bytes(bad), stdout=subprocess.PIPE, stderr=subprocess.PIPE)
+        self.assertEqual(subprocess.run(words, input=BYTES, stdout=subprocess.PIPE).stdout, BYTES)
+        done = subprocess.run([*words, "--shift", "7"], input=bytes_at(bad), stdout=subprocess.PIPE, stderr=subprocess.PIPE)
         self.assertEqual((done.returncode, done.stdout), (1, b""))
         with open(at("full"), "wb") as full:
             self.assertEqual(subprocess.run([*words[:-2], RIDE, "/dev/full"], stderr=full).returncode, 4)
@@ -141,7 +138,7 @@ class Join(unittest.TestCase):
     def test_chain(self):
         command("edit", "--shift", "86400", RIDE, at("next.fit"))
         command("join", RIDE, at("next.fit"), RIDE, at("out.fit"))
-        self.assertEqual(open_bytes(at("out.fit")), open_bytes(RIDE) + open_bytes(at("next.fit")) + open_bytes(RIDE))
+        self.assertEqual(bytes_at(at("out.fit")), BYTES + bytes_at(at("next.fit")) + BYTES)
 
     def test_one(self):
         """One activity: distances go on, a lap for each file, and one session."""
@@ -179,7 +176,7 @@ class Join(unittest.TestCase):
 class Examples(unittest.TestCase):
     @classmethod
     def setUpClass(cls):
-        cls.made = run("examples/python/gpx_to_fit.py", "examples/ride.gpx", at("gpx.fit"))
+        cls.made = run(example("gpx_to_fit.py"), in_tree("examples/ride.gpx"), at("gpx.fit"), encoding="utf-8")
 
     def test_gpx(self):
         """The ride is what another program made of the same track; it cuts altitudes to fifths of a metre, and these are the nearest."""
@@ -191,7 +188,7 @@ class Examples(unittest.TestCase):
             self.assertAlmostEqual(row.altitude, other.altitude, delta=0.21)
             self.assertAlmostEqual(row.position_lat, other.position_lat, delta=1e-6)
             self.assertAlmostEqual(row.distance, other.distance, delta=12)
-        self.assertNotEqual(run("examples/python/gpx_to_fit.py", RIDE, at("none.fit")).returncode, 0)
+        self.assertNotEqual(run(example("gpx_to_fit.py"), RIDE, at("none.fit")).returncode, 0)
         self.assertFalse(os.path.exists(at("none.fit")))
 
     def test_heart_rates(self):
@@ -201,16 +198,17 @@ class Examples(unittest.TestCase):
             out.define("record", "timestamp heart_rate").columns(timestamp=times, heart_rate=[100 + k % 50 for k in range(len(times))])
         rates = dict(zip(times, (100 + k % 50 for k in range(len(times)))))
         for ride in (RIDE, at("gpx.fit")):
-            done = run("examples/python/merge_heart_rates.py", ride, at("strap.fit"), at("merged.fit"), "1")
+            done = run(example("merge_heart_rates.py"), ride, at("strap.fit"), at("merged.fit"), "1", encoding="utf-8")
             self.assertEqual((done.returncode, done.stderr), (0, ""))
             for before, after in zip(gazhdor.messages(ride), gazhdor.messages(at("merged.fit"))):
                 near = [rate for time, rate in rates.items() if before.seconds is not None and abs(time - before.seconds) <= 1]
                 wanted = {**dict(before), **({"heart_rate": near[0] if near else None} if before.name == "record" else {})}
                 self.assertEqual(dict(after), wanted)
 
-    @unittest.skipUnless(shutil.which("gpsbabel"), "there is no gpsbabel")
     def test_gpsbabel(self):
         """gpsbabel reads the places, altitudes and times of what is written, edited and joined."""
+        if not shutil.which("gpsbabel"):
+            left_out("there is no gpsbabel, so no other program reads what is edited and joined")
         command("edit", "--shift", "3600", RIDE, at("later.fit"))
         command("join", "--one", RIDE, at("later.fit"), at("both.fit"))
         for name, source in (("gpx.fit", at("gpx.fit")), ("later.fit", at("later.fit")), ("both.fit", at("both.fit"))):
@@ -224,11 +222,6 @@ class Examples(unittest.TestCase):
                 self.assertAlmostEqual(float(long), row.position_long, 7)
                 self.assertAlmostEqual(float(altitude), row.altitude, 2)
                 self.assertEqual(time, row.timestamp.strftime("%Y-%m-%dT%H:%M:%S"))
-
-
-def open_bytes(path):
-    with open(path, "rb") as file:
-        return file.read()
 
 
 if __name__ == "__main__":

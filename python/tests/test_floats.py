@@ -3,8 +3,9 @@ orders, where whole numbers are scaled by the profile."""
 import struct
 import unittest
 
+from fits import FLOAT32, FLOAT64, UINT16, define, fit
+
 import gazhdor
-from python_fits import *
 
 SPEED, ALTITUDE = 6, 2
 FLOATS = [(SPEED, 4, FLOAT32), (ALTITUDE, 8, FLOAT64)]

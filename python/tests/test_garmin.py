@@ -4,25 +4,34 @@ where its profile has a scale. And what the names of gazhdor.EXTRA say is compar
 import math
 import os
 import re
-import shutil
 import struct
 import subprocess
 import sys
 import unittest
 
+from support import RIDE, folder, in_tree, recording, text_at
+
 import gazhdor
 
-FOLDER, WORK = sys.argv.pop(), sys.argv.pop()
+# where Debian's pytrainer has it
+FOLDER = "/usr/share/pytrainer/plugins/garmin-fit/bin"
+WORK = folder()
 FLOAT32, FLOAT64 = 8, 9
 # developer_data_id and field_description, which Garmin::FIT reads for itself: it gives the names of developer fields
 KEPT = (207, 206)
 KINDS = ("plain", "developer", "compressed", "turns", "definitions", "strings")
 
 
-def told(path):
-    """The lines of tests/garmin.pl for a file, each as its words."""
-    said = subprocess.run(["perl", "tests/garmin.pl", FOLDER, path], stdout=subprocess.PIPE, check=True, encoding="latin-1").stdout
+def asked(script, *words):
+    """The lines that a script of this folder writes, each as its words."""
+    path = os.path.join(os.path.dirname(os.path.abspath(__file__)), script)
+    said = subprocess.run(["perl", path, FOLDER, *words], stdout=subprocess.PIPE, check=True, encoding="latin-1").stdout
     return [line.split("\t") for line in said.splitlines()]
+
+
+def told(path):
+    """The lines of garmin.pl for a file, each as its words."""
+    return asked("garmin.pl", path)
 
 
 def developer_name(name):
@@ -76,24 +85,18 @@ class Garmin(unittest.TestCase):
         return messages, self.scaled
 
     def test_ride(self):
-        messages, scaled = self.compare("examples/ride.fit")
+        messages, scaled = self.compare(RIDE)
         self.assertGreater(messages, 100)
         self.assertGreater(scaled, 100)
 
     def test_recordings(self):
-        if not shutil.which("cc"):
-            print("tests/python: there is no cc, so no recordings are made", file=sys.stderr)
-            self.skipTest("there is no cc")
-        recording = os.path.join(WORK, "recording")
-        subprocess.run(["cc", "-O1", "-o", recording, "bench/recording.c"], check=True)
         for kind in KINDS:
-            subprocess.run([recording, kind, "20k", recording + ".fit"], check=True)
+            path = recording(kind, "20k")
             with self.subTest(kind):
-                messages, scaled = self.compare(recording + ".fit")
+                messages, scaled = self.compare(path)
                 self.assertGreater(messages, 3)
                 if kind != "strings":
                     self.assertGreater(scaled, 3)
-
 
     def test_written(self):
         """What is written from values is read as these."""
@@ -113,7 +116,7 @@ class Garmin(unittest.TestCase):
 
     def test_edited(self):
         path = os.path.join(WORK, "edited.fit")
-        for words in (["edit", "--drop", "position", "--shift", "3600", "examples/ride.fit"], ["join", "--one", "examples/ride.fit", path]):
+        for words in (["edit", "--drop", "position", "--shift", "3600", RIDE], ["join", "--one", RIDE, path]):
             into = path if words[0] == "edit" else os.path.join(WORK, "joined.fit")
             subprocess.run([sys.executable, "-m", "gazhdor", *words, into], check=True, stderr=subprocess.DEVNULL)
             messages, scaled = self.compare(into)
@@ -123,12 +126,11 @@ class Garmin(unittest.TestCase):
 class Types(unittest.TestCase):
     def test_base_types(self):
         """The base types of the fields whose type has a name there."""
-        said = subprocess.run(["perl", "tests/garmin_types.pl", FOLDER], stdout=subprocess.PIPE, check=True, encoding="latin-1").stdout
-        told = {(int(message), int(field)): int(base) for message, field, base in (line.split("\t") for line in said.splitlines())}
+        told = {(int(message), int(field)): int(base) for message, field, base in asked("garmin_types.pl")}
         compared = 0
         for path in ("profile/fields.tsv", "profile/extra.tsv"):
-            with open(path, encoding="utf-8") as file:
-                rows = [line.rstrip("\n").split("\t") for line in file if not line.startswith(("#", "message\t"))]
+            lines = text_at(in_tree(path)).splitlines()
+            rows = [line.split("\t") for line in lines if not line.startswith(("#", "message\t"))]
             for row in rows:
                 place = (int(row[0]), int(row[2])) if row[2] else None
                 if place in told and row[-1]:
@@ -150,10 +152,8 @@ PACKED = {(132, 10)}
 
 class Extra(unittest.TestCase):
     def test_extra(self):
-        said = subprocess.run(["perl", "tests/garmin_profile.pl", FOLDER], stdout=subprocess.PIPE, check=True, encoding="latin-1").stdout
-        rows = [line.split("\t") for line in said.splitlines()]
         compared = 0
-        for message, message_name, field, name, unit, scale, offset in rows:
+        for message, message_name, field, name, unit, scale, offset in asked("garmin_profile.pl"):
             place = int(message), int(field)
             named = gazhdor.EXTRA.fields(place[0]).get(place[1])
             if named is None or named.name is None or name.startswith("unknown"):
@@ -167,4 +167,5 @@ class Extra(unittest.TestCase):
         self.assertGreater(compared, 350)
 
 
-unittest.main()
+if __name__ == "__main__":
+    unittest.main()

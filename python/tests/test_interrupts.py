@@ -9,19 +9,16 @@ import re
 import signal
 import subprocess
 import sys
-import threading
 import unittest
-import warnings
+
+from support import BYTES, RIDE, left_out
+from fits import UINT8, define, fit
 
 import gazhdor
 from gazhdor._blocks import Walk
 from gazhdor._library import library
 from gazhdor._messages import messages_of
-from python_fits import *
 
-RIDE = "examples/ride.fit"
-with open(RIDE, "rb") as file:
-    BYTES = file.read()
 HERE = os.path.dirname(os.path.abspath(__file__))
 
 
@@ -347,8 +344,7 @@ class Lengths(unittest.TestCase):
             free = 1024 * int(re.search(r"MemAvailable:\s*(\d+) kB", file.read()).group(1))
         for length in (2**31 + 5, 2**32 + 5):
             if free < length + 2**32:
-                print(f"tests/python: there is no memory for a text of {length} bytes, so none is tried", file=sys.stderr)
-                continue
+                left_out(f"there is no memory for a text of {length} bytes, so none is tried")
             self.see_long(length)
 
     def see_long(self, length):

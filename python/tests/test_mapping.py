@@ -8,10 +8,13 @@ import os
 import pickle
 import unittest
 
-import gazhdor
-from python_fits import *
+from support import RIDE
+from fits import (
+    BYTE, DESCRIBE, NATIVE, SINT32, SMALL, STRING, UINT16, UINT32, UINT8, define, describe, fit, native, one, packed,
+)
 
-RIDE = "examples/ride.fit"
+import gazhdor
+
 UTC = datetime.timezone.utc
 
 

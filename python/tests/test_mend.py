@@ -1,33 +1,31 @@
 """What the module gazhdor makes of files that are broken off or damaged, of rides as GPX, what it says of refused bytes and cells, and that
 examples/python/anonymise.py leaves no place. Files are written here, as the FIT protocol has them."""
+import decimal
 import json
 import os
 import pickle
 import random
 import re
-import shutil
-import struct
 import subprocess
 import sys
 import unittest
 import xml.etree.ElementTree
 
-import gazhdor
-from python_fits import *
+from support import BYTES, RIDE, bytes_at, example, folder, in_tree, recording, run, text_at
+from fits import (
+    BYTE, DESCRIBE, FLOAT32, FLOAT64, SINT16, SINT32, STRING, UINT16, UINT32, UINT8, any_file, checksum, define,
+    describe, fit, packed,
+)
 
-RIDE = "examples/ride.fit"
-WORK = sys.argv.pop()
-with open(RIDE, "rb") as file:
-    BYTES = file.read()
+import gazhdor
+
+WORK = folder()
 MESSAGES = list(gazhdor.messages(BYTES))
 GPX = "{http://www.topografix.com/GPX/1/1}"
 
 
-def run(*words, **more):
-    more.setdefault("stdin", subprocess.DEVNULL if "input" not in more else None)
-    if more["stdin"] is None:
-        del more["stdin"]
-    return subprocess.run([sys.executable, "-m", "gazhdor", *words], stdout=subprocess.PIPE, stderr=subprocess.PIPE, **more)
+def command(*words, **how):
+    return run("-m", "gazhdor", *words, **(how or {"stdin": subprocess.DEVNULL}))
 
 
 class Mend(unittest.TestCase):
@@ -49,15 +47,8 @@ class Mend(unittest.TestCase):
 
     def test_recordings(self):
         """Recordings of each kind, broken off at thirteen places: all messages that are whole."""
-        if not shutil.which("cc"):
-            print("tests/python: there is no cc, so no recordings are made", file=sys.stderr)
-            self.skipTest("there is no cc")
-        made = os.path.join(WORK, "recording")
-        subprocess.run(["cc", "-O1", "-o", made, "bench/recording.c"], check=True)
         for kind in ("plain", "developer", "compressed", "turns", "definitions", "strings"):
-            subprocess.run([made, kind, "20k", made + ".fit"], check=True)
-            with open(made + ".fit", "rb") as file:
-                data = file.read()
+            data = bytes_at(recording(kind, "20k"))
             whole = list(gazhdor.messages(data))
             for cut in range(1, 14):
                 mended = gazhdor.mend(data[: len(data) * cut // 14])
@@ -106,10 +97,10 @@ class Mend(unittest.TestCase):
                 gazhdor.mend(data)
 
     def test_shell(self):
-        done = run("mend", input=BYTES[:2000])
+        done = command("mend", input=BYTES[:2000])
         self.assertEqual((done.returncode, done.stdout), (0, gazhdor.mend(BYTES[:2000])))
         self.assertEqual(done.stderr, f"-: truncated at byte 2000; mended: {len(done.stdout)} of 2000 bytes\n".encode())
-        done = run("mend", RIDE, "-", input=b"PK")
+        done = command("mend", RIDE, "-", input=b"PK")
         self.assertEqual((done.returncode, done.stdout, done.stderr), (1, BYTES, b"-: refused at byte 1: Protocol\n"))
 
 
@@ -120,8 +111,7 @@ class Gpx(unittest.TestCase):
 
     def test_ride(self):
         """The points are those of which another program made the ride; altitudes are in steps of 0.2 m there."""
-        with open("examples/ride.gpx", encoding="utf-8") as file:
-            wanted = self.points(file.read())
+        wanted = self.points(text_at(in_tree("examples/ride.gpx")))
         found = self.points(gazhdor.gpx(RIDE))
         self.assertEqual(len(found), len(wanted))
         for point, other in zip(found, wanted):
@@ -145,7 +135,7 @@ class Gpx(unittest.TestCase):
         self.assertGreater(len(self.points(cut)), 50)
         with self.assertRaises(gazhdor.Truncated):
             gazhdor.gpx(BYTES[:2000])
-        done = run("gpx", input=BYTES[:2000])
+        done = command("gpx", input=BYTES[:2000])
         self.assertEqual((done.returncode, done.stdout.decode(), done.stderr), (1, cut, b"-: truncated at byte 2000\n"))
         self.assertEqual(self.points(gazhdor.gpx(fit())), [])
 
@@ -153,8 +143,7 @@ class Gpx(unittest.TestCase):
 class Words(unittest.TestCase):
     def test_reasons(self):
         """The words are those of the page of the program, of which docs/USE.md has the same."""
-        with open("install.d/fit.1", encoding="utf-8") as file:
-            page = dict(re.findall(r"^\.B (\w+)\n(.*)$", file.read().split(".SH REASONS")[1], re.M))
+        page = dict(re.findall(r"^\.B (\w+)\n(.*)$", text_at(in_tree("install.d/fit.1")).split(".SH REASONS")[1], re.M))
         small = fit(define(0, 20, [(3, 1, UINT8)]), b"\0\1")
         for data, reason in (
             (b"\x0d", "HeaderSize"), (b"\x0e\x30", "Protocol"), (small[:4] + b"\5\0\0\0" + small[8:], "NoFit"), (small[:9] + b"?", "Signature"), (small[:12] + b"??", "HeaderSum"),
@@ -221,7 +210,7 @@ class Words(unittest.TestCase):
 
     def test_shell(self):
         text = gazhdor.to_csv(RIDE).replace("altitude,408.0", "altitude,408.1", 1)
-        done = run("from-csv", input=text.encode())
+        done = command("from-csv", input=text.encode())
         self.assertEqual((done.returncode, done.stdout, done.stderr), (1, b"", b"-: row 72 column 3 refused: 408.1: steps of 0.2\n"))
 
 
@@ -235,12 +224,12 @@ class Json(unittest.TestCase):
             ((), {"heart_rate": 120, "field_83": 812}, {"heart_rate": "bpm"}), (("--extra",), {"heart_rate": 120, "vertical_ratio": 8.12}, {"heart_rate": "bpm", "vertical_ratio": "percent"}),
             (("--extra", "--names", path), {"pulse": 120, "vertical_ratio": 8.12}, {"pulse": "bpm", "vertical_ratio": "percent"}), (("--names", path, "--"), {"pulse": 120, "field_83": 812}, {"pulse": "bpm"}),
         ):
-            told = json.loads(run("json", *words, input=data).stdout)
+            told = json.loads(command("json", *words, input=data).stdout)
             self.assertEqual((told["fields"], told["units"]), (fields, units))
         with open(path, "a", encoding="utf-8") as file:
             file.write("record\t3\t.time\n")
         for words, said in ((("--names", path), b"line 3: '.time' can't be a name"), (("--names",), b"usage:"), (("--names", path + "x"), b"No such file")):
-            done = run("json", *words, input=data)
+            done = command("json", *words, input=data)
             self.assertEqual((done.returncode, done.stdout), (2, b""))
             self.assertIn(said, done.stderr)
 
@@ -261,11 +250,10 @@ class Anonymise(unittest.TestCase):
         source, into = (os.path.join(WORK, name) for name in ("places.fit", "none.fit"))
         with open(source, "wb") as output:
             output.write(file)
-        words = [sys.executable, "examples/python/anonymise.py", source, into]
-        done = subprocess.run(words, stdout=subprocess.PIPE, stderr=subprocess.PIPE, encoding="utf-8")
+        words = example("anonymise.py"), source, into
+        done = run(*words, encoding="utf-8")
         self.assertEqual((done.returncode, done.stderr), (0, ""))
-        with open(into, "rb") as found:
-            data = found.read()
+        data = bytes_at(into)
         for hidden in (packed("<i", lat), packed("<i", long), packed(">i", lat), packed(">i", long), packed("<d", 47.3), packed("<f", 47.3), b"47.3"):
             self.assertIn(hidden, file)
             self.assertNotIn(hidden, data)
@@ -274,10 +262,10 @@ class Anonymise(unittest.TestCase):
         self.assertEqual(done.stdout.count("emptied: "), 13)
         self.assertIn("emptied: session field_29, 1 times\n", done.stdout)
         # it doesn't write over a file
-        self.assertNotEqual(subprocess.run(words, stdout=subprocess.PIPE, stderr=subprocess.PIPE).returncode, 0)
+        self.assertNotEqual(run(*words).returncode, 0)
 
     def test_ride(self):
-        sys.path.insert(0, "examples/python")
+        sys.path.insert(0, example(""))
         import anonymise
 
         data, counts = anonymise.anonymised(RIDE)

@@ -3,23 +3,21 @@ that bench/recording.c makes, and of files of random definitions and data; and b
 import datetime
 import io
 import math
-import os
 import pickle
 import random
-import shutil
 import struct
-import subprocess
-import sys
 import unittest
+
+from support import BYTES, RIDE, folder, recording
+from fits import (
+    BYTE, DESCRIBE, FLOAT32, FLOAT64, NONE4, NONE8, SINT16, SINT32, SINT64, SMALL, STRING, UINT16, UINT32, UINT64,
+    UINT8, any_file, as_text, define, describe, fit, label_of, packed, rows_of,
+)
 
 import gazhdor
 from gazhdor._library import library, text_of
-from python_fits import *
 
-RIDE = "examples/ride.fit"
-WORK = sys.argv.pop()
-with open(RIDE, "rb") as file:
-    BYTES = file.read()
+WORK = folder()
 
 
 def zip_all(one, two):
@@ -69,14 +67,8 @@ class Rows(unittest.TestCase):
 
     def test_recordings(self):
         """A plain recording, and with developer fields, with compressed headers, with a definition before each message, with texts."""
-        recording = os.path.join(WORK, "recording")
-        if not shutil.which("cc"):
-            print("tests/python: there is no cc, so no recordings are made", file=sys.stderr)
-            self.skipTest("there is no cc")
-        subprocess.run(["cc", "-O1", "-o", recording, "bench/recording.c"], check=True)
         for kind in ("plain", "developer", "compressed", "turns", "definitions", "strings"):
-            subprocess.run([recording, kind, "20k", recording + ".fit"], check=True)
-            self.assertGreater(self.compare(recording + ".fit"), 3)
+            self.assertGreater(self.compare(recording(kind, "20k")), 3)
 
 
 # ---- blocks by hand

@@ -9,15 +9,17 @@ import pickle
 import random
 import shutil
 import subprocess
-import sys
 import tempfile
 import unittest
 
+from support import PYTHON, RIDE, in_tree, left_out, text_at
+from fits import (
+    DESCRIBE, FLOAT32, NONE4, SINT16, SINT32, UINT16, UINT32, UINT8, any_file, define, describe, fit, one, packed,
+)
+
 import gazhdor
 from gazhdor._json import line
-from python_fits import *
 
-RIDE = "examples/ride.fit"
 UTC = datetime.timezone.utc
 
 
@@ -174,8 +176,7 @@ class Extra(unittest.TestCase):
         wanted.update({101: [0, 1, 2, 3, 4, 5, 6, 7, 9, 12], 132: [0, 1, 6, 9, 10], 216: range(16)})
         for message, fields in wanted.items():
             self.assertEqual(set(fields) - set(extra.fields(message)), set(), message)
-        with open("profile/fields.tsv", encoding="utf-8") as file:
-            rows = [line.split("\t") for line in file.read().splitlines()[1:]]
+        rows = [line.split("\t") for line in text_at(in_tree("profile/fields.tsv")).splitlines()[1:]]
         known = {(int(row[0]), int(row[2])): row[3] for row in rows}
         messages = {int(row[0]) for row in rows} | {number for number in extra.messages.values()}
         for message in messages:
@@ -214,8 +215,7 @@ class Columns(unittest.TestCase):
         try:
             import numpy
         except ModuleNotFoundError:
-            print("tests/python: there is no numpy, so arrays by other names aren't tried", file=sys.stderr)
-            self.skipTest("numpy")
+            left_out("there is no numpy, so arrays by other names aren't tried")
         (array,) = gazhdor.columns(self.SOURCE, "record", ["vertical_ratio"], names=gazhdor.EXTRA).values()
         self.assertEqual((array[0], math.isnan(array[1]), array.dtype), (8.12, True, numpy.float64))
 
@@ -300,13 +300,12 @@ class Types(unittest.TestCase):
     def test_mypy(self):
         """A program that uses all of this, in the strict way; and each wrong use is seen."""
         if not shutil.which("mypy"):
-            print("tests/python: there is no mypy, so the types aren't checked", file=sys.stderr)
-            self.skipTest("mypy")
+            left_out("there is no mypy, so the types aren't checked")
         with tempfile.TemporaryDirectory() as work:
             program, lines = os.path.join(work, "typed.py"), len(TYPED.splitlines())
             with open(program, "w", encoding="utf-8") as file:
                 file.write(TYPED + "".join(f"{wrong}\n" for wrong in WRONG))
-            done = subprocess.run(["mypy", "--strict", "--cache-dir", os.path.join(work, "types"), program], stdout=subprocess.PIPE, env=dict(os.environ, MYPYPATH="python"))
+            done = subprocess.run(["mypy", "--strict", "--cache-dir", os.path.join(work, "types"), program], stdout=subprocess.PIPE, env=dict(os.environ, MYPYPATH=PYTHON))
             said = [line for line in done.stdout.decode().splitlines() if ": error:" in line]
             self.assertEqual([line.split(":")[:2] for line in said], [[program, str(lines + number)] for number in range(1, len(WRONG) + 1)])
 

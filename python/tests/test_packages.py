@@ -1,7 +1,6 @@
 """What the wheel of gazhdor must have and do, how the module finds its library, its types, and the example that dask runs."""
 import base64
 import csv
-import datetime
 import hashlib
 import importlib.util
 import io
@@ -15,44 +14,46 @@ import sys
 import time
 import types
 import unittest
+import unittest.mock
 import zipfile
 
-from python_types import TYPED, WRONG
+from support import BYTES, PYTHON, RIDE, VERSION, bytes_at, example, folder, in_tree, left_out
+from typed import TYPED, WRONG
 
-RIDE = os.path.abspath("examples/ride.fit")
 MACHINE = f"{platform.machine()}-linux"
 LIBRARY = f"release/{MACHINE}/libgazhdor.so"
-TREE = os.path.abspath("python")
-WORK = sys.argv.pop()
-with open("VERSION") as file:
-    VERSION = file.read().strip()
+MODULE = os.path.join(PYTHON, "gazhdor")
+WORK = folder()
 SONAME = ".".join(VERSION.split(".")[:2])
 
 
+def variables(**more):
+    """The variables of the shell, by which no other library is found than the one that a test lays down."""
+    return {**{name: value for name, value in os.environ.items() if name not in ("GAZHDOR_LIBRARY", "PYTHONPATH")}, **more}
+
+
 def run(*words, python=sys.executable, **how):
-    how.setdefault("env", dict(os.environ, PYTHONPATH=TREE))
+    how.setdefault("env", variables())
     return subprocess.run([python, *words], stdout=subprocess.PIPE, stderr=subprocess.PIPE, **how)
 
 
-def has(case, done, what):
-    """Leaves a case out where what it needs isn't there, and says so."""
-    if done:
-        return
-    print(f"tests/python: there is no {what}", file=sys.stderr)
-    case.skipTest(what)
+def has(done, what):
+    """Leaves a case out where what it needs isn't there."""
+    if not done:
+        left_out(f"there is no {what}")
 
 
 def wheel_in(folder):
     """The wheel, as the backend makes it in a folder."""
     os.makedirs(folder, exist_ok=True)
-    done = run("-c", "import backend, sys; print(backend.build_wheel(sys.argv[1]))", folder, cwd=TREE, env=dict(os.environ, PYTHONPATH=""))
+    done = run("-c", "import backend, sys; print(backend.build_wheel(sys.argv[1]))", folder, cwd=PYTHON)
     assert done.returncode == 0, done.stderr
     return os.path.join(folder, done.stdout.decode().strip())
 
 
-def imported(place, program="import gazhdor", **variables):
+def imported(place, program="import gazhdor", **more):
     """What a new Python with nothing but a folder or a zip file of modules does, elsewhere."""
-    return run("-W", "error", "-c", program, cwd="/", env=dict(variables, PYTHONPATH=place, PYTHONDONTWRITEBYTECODE="1", TMPDIR=WORK))
+    return run("-W", "error", "-c", program, cwd="/", env=dict(more, PYTHONPATH=place, PYTHONDONTWRITEBYTECODE="1", TMPDIR=WORK))
 
 
 USE = f"import gazhdor; print(gazhdor.__version__, gazhdor.check({RIDE!r}), gazhdor.__file__)"
@@ -65,19 +66,17 @@ class Wheel(unittest.TestCase):
 
     def test_same_bytes_each_time(self):
         time.sleep(0.01)
-        with open(self.wheel, "rb") as first, open(wheel_in(os.path.join(WORK, "second")), "rb") as second:
-            self.assertEqual(first.read(), second.read())
+        self.assertEqual(bytes_at(self.wheel), bytes_at(wheel_in(os.path.join(WORK, "second"))))
 
     def test_files(self):
         """The record has each file with its checksum and length, but itself without."""
         about = f"gazhdor-{VERSION}.dist-info"
         with zipfile.ZipFile(self.wheel) as wheel:
             files = {name: wheel.read(name) for name in wheel.namelist()}
-        wanted = {f"gazhdor/{name}": f"python/gazhdor/{name}" for name in os.listdir("python/gazhdor") if name != "__pycache__"}
+        wanted = {f"gazhdor/{name}": f"python/gazhdor/{name}" for name in os.listdir(MODULE) if name != "__pycache__"}
         wanted.update({"gazhdor/VERSION": "VERSION", "gazhdor/libgazhdor.so": LIBRARY, f"{about}/LICENSE": "LICENSE"})
         for name, path in wanted.items():
-            with open(path, "rb") as file:
-                self.assertEqual(files[name], file.read())
+            self.assertEqual(files[name], bytes_at(in_tree(path)))
         self.assertEqual(sorted(files), sorted([*wanted, *(f"{about}/{name}" for name in ("METADATA", "WHEEL", "RECORD"))]))
         record = list(csv.reader(io.StringIO(files[f"{about}/RECORD"].decode())))
         self.assertEqual([row[0] for row in record], list(files))
@@ -92,8 +91,8 @@ class Wheel(unittest.TestCase):
         with zipfile.ZipFile(self.wheel) as wheel:
             told = wheel.read(f"gazhdor-{VERSION}.dist-info/WHEEL").decode()
         self.assertEqual(told.splitlines()[2:], ["Root-Is-Purelib: false", f"Tag: py3-none-manylinux_2_{tag.group(1)}_{platform.machine()}"])
-        has(self, shutil.which("objdump"), "objdump, so the tag isn't compared with what the library needs")
-        said = subprocess.run(["objdump", "-T", LIBRARY], stdout=subprocess.PIPE, check=True).stdout.decode()
+        has(shutil.which("objdump"), "objdump, so the tag isn't compared with what the library needs")
+        said = subprocess.run(["objdump", "-T", in_tree(LIBRARY)], stdout=subprocess.PIPE, check=True).stdout.decode()
         needed = [tuple(map(int, number.split("."))) for number in re.findall(r"\(?GLIBC_([\d.]+)\)?", said)]
         self.assertTrue(needed)
         self.assertEqual(int(tag.group(1)), max(17, max(needed)[1]))
@@ -108,9 +107,9 @@ class Wheel(unittest.TestCase):
 
     def test_pip(self):
         """Installed of the tree, and of the wheel: the same files, which need nothing of the tree."""
-        has(self, run("-m", "pip", "--version").returncode == 0, "pip")
+        has(run("-m", "pip", "--version").returncode == 0, "pip")
         listed = []
-        for source in (TREE, self.wheel):
+        for source in (PYTHON, self.wheel):
             to = os.path.join(WORK, f"to {len(listed)}")
             done = run("-m", "pip", "install", "--no-index", "--no-compile", "--disable-pip-version-check", "--target", to, source)
             self.assertEqual(done.returncode, 0, done.stderr.decode())
@@ -125,7 +124,7 @@ class Wheel(unittest.TestCase):
 
     def test_machines(self):
         """A wheel for the processor that is named, of those that there are; and none of a library that is damaged."""
-        backend = importlib.util.module_from_spec(importlib.util.spec_from_file_location("backend", os.path.join(TREE, "backend.py")))
+        backend = importlib.util.module_from_spec(importlib.util.spec_from_file_location("backend", os.path.join(PYTHON, "backend.py")))
         backend.__spec__.loader.exec_module(backend)
         self.assertEqual(backend.build_wheel(WORK, {"processor": platform.machine()}), os.path.basename(self.wheel))
         with self.assertRaisesRegex(RuntimeError, "libraries for x86_64 Linux and for aarch64 Linux, and none for riscv64 Linux"):
@@ -133,7 +132,7 @@ class Wheel(unittest.TestCase):
         backend.TREE = os.path.join(WORK, "damaged")
         os.makedirs(os.path.join(backend.TREE, "release", MACHINE))
         for name in ("VERSION", "LICENSE", "release/SHA256SUMS", LIBRARY):
-            shutil.copy(name, os.path.join(backend.TREE, name))
+            shutil.copy(in_tree(name), os.path.join(backend.TREE, name))
         self.assertEqual(backend.build_wheel(WORK), os.path.basename(self.wheel))
         with open(os.path.join(backend.TREE, LIBRARY), "r+b") as file:
             file.seek(5000)
@@ -146,8 +145,8 @@ class Wheel(unittest.TestCase):
     def test_no_library(self):
         """Where the tree isn't whole, the backend says so."""
         part = os.path.join(WORK, "part")
-        shutil.copytree(TREE, part)
-        done = run("-c", "import backend; backend.build_wheel('.')", cwd=part, env=dict(os.environ, PYTHONPATH=""))
+        shutil.copytree(PYTHON, part)
+        done = run("-c", "import backend; backend.build_wheel('.')", cwd=part)
         self.assertEqual(done.returncode, 1)
         self.assertIn(f"{os.path.join(WORK, 'VERSION')} isn't there: the wheel is made where the whole tree is".encode(), done.stderr)
 
@@ -165,14 +164,13 @@ except ImportError as error:
     @classmethod
     def setUpClass(cls):
         cls.alone = os.path.join(WORK, "alone")
-        shutil.copytree("python/gazhdor", os.path.join(cls.alone, "gazhdor"))
-        shutil.copy("VERSION", os.path.join(cls.alone, "gazhdor"))
-        cls.library = shutil.copy(LIBRARY, os.path.join(cls.alone, "gazhdor"))
-        with open(cls.library, "rb") as file:
-            cls.bytes = file.read()
+        shutil.copytree(MODULE, os.path.join(cls.alone, "gazhdor"))
+        shutil.copy(in_tree("VERSION"), os.path.join(cls.alone, "gazhdor"))
+        cls.library = shutil.copy(in_tree(LIBRARY), os.path.join(cls.alone, "gazhdor"))
+        cls.bytes = bytes_at(cls.library)
 
-    def refused(self, kind, path, what, before="", say=SAY, **variables):
-        done = imported(self.alone, before + say, **variables)
+    def refused(self, kind, path, what, before="", say=SAY, **more):
+        done = imported(self.alone, before + say, **more)
         self.assertEqual(done.stderr, b"")
         module, name, about, found, said = done.stdout.decode().splitlines()
         self.assertEqual((module, name, about, found), ("gazhdor.errors", kind, "gazhdor", str(path)))
@@ -191,14 +189,14 @@ except ImportError as error:
         """In the tree version and library are those above python/, unless they are beside the module."""
         tree = os.path.join(WORK, "a tree")
         python = os.path.join(tree, "python")
-        shutil.copytree("python/gazhdor", os.path.join(python, "gazhdor"))
-        shutil.copy("VERSION", tree)
+        shutil.copytree(MODULE, os.path.join(python, "gazhdor"))
+        shutil.copy(in_tree("VERSION"), tree)
         os.makedirs(os.path.join(tree, "release", MACHINE))
         for name in ("release/SOURCES", LIBRARY):
-            shutil.copy(name, os.path.join(tree, name))
+            shutil.copy(in_tree(name), os.path.join(tree, name))
         says = "import gazhdor; print(gazhdor.__version__, gazhdor._library._name)"
         self.assertEqual(imported(python, says).stdout.decode(), f"{VERSION} {tree}/{LIBRARY}\n")
-        self.assertEqual(imported(TREE, USE).stdout.decode(), f"{VERSION} ok {TREE}/gazhdor/__init__.py\n")
+        self.assertEqual(imported(PYTHON, USE).stdout.decode(), f"{VERSION} ok {PYTHON}/gazhdor/__init__.py\n")
         for name in ("VERSION", LIBRARY):
             shutil.copy(os.path.join(tree, name), os.path.join(python, "gazhdor"))
             with open(os.path.join(tree, name), "wb") as file:
@@ -208,10 +206,10 @@ except ImportError as error:
     def test_another_tree(self):
         """A folder release/ above a module that stands in no tree of its own is none of ours."""
         folder = os.path.join(WORK, "an application")
-        shutil.copytree("python/gazhdor", os.path.join(folder, "modules", "gazhdor"))
+        shutil.copytree(MODULE, os.path.join(folder, "modules", "gazhdor"))
         os.makedirs(os.path.join(folder, "release", MACHINE))
         for name in ("VERSION", "release/SOURCES", LIBRARY):
-            shutil.copy(name, os.path.join(folder, name))
+            shutil.copy(in_tree(name), os.path.join(folder, name))
         done = imported(os.path.join(folder, "modules"), self.SAY)
         self.assertEqual(done.stdout.decode().splitlines()[:2], ["gazhdor.errors", "LibraryMissing"])
 
@@ -266,7 +264,7 @@ except ImportError as error:
         self.refused("LibraryUnusable", other, f"{other} can't be loaded: ", GAZHDOR_LIBRARY=other)
 
     def test_shell(self):
-        done = run("-m", "gazhdor", "check", RIDE, env=dict(os.environ, PYTHONPATH=TREE, GAZHDOR_LIBRARY="none.so"))
+        done = run("-m", "gazhdor", "check", RIDE, env=variables(PYTHONPATH=PYTHON, GAZHDOR_LIBRARY="none.so"))
         self.assertEqual((done.returncode, done.stdout, done.stderr.count(b"\n")), (1, b"", 1))
         self.assertIn(b"(LibraryMissing: none.so isn't there, which GAZHDOR_LIBRARY names)", done.stderr)
 
@@ -274,12 +272,12 @@ except ImportError as error:
 class Types(unittest.TestCase):
     def test_mypy(self):
         """The module, and a program that uses all of it, in the strict way; and each wrong use is seen."""
-        has(self, shutil.which("mypy"), "mypy, so the types aren't checked")
+        has(shutil.which("mypy"), "mypy, so the types aren't checked")
         program = os.path.join(WORK, "typed.py")
         lines = len(TYPED.splitlines())
         with open(program, "w") as file:
             file.write(TYPED + "".join(f"{wrong}\n" for wrong in WRONG))
-        words = ["mypy", "--strict", "--cache-dir", os.path.join(WORK, "types"), "python/gazhdor", program]
+        words = ["mypy", "--strict", "--cache-dir", os.path.join(WORK, "types"), MODULE, program]
         done = subprocess.run(words, stdout=subprocess.PIPE)
         said = [line for line in done.stdout.decode().splitlines() if ": error:" in line]
         self.assertEqual([line.split(":")[:2] for line in said], [[program, str(lines + number)] for number in range(1, len(WRONG) + 1)])
@@ -292,7 +290,7 @@ class Dask(unittest.TestCase):
         # Its pages, which are asked for nothing, would else be there for all the world.
         alone = ["--host", "127.0.0.1", "--dashboard-address", "127.0.0.1:0", "--no-dashboard", "--scheduler-file", self.scheduler]
         words = [self.python, "-m", "dask", kind, *alone, *words]
-        started = subprocess.Popen(words, cwd=WORK, env=dict(os.environ, PYTHONPATH=""), stdout=log, stderr=log)
+        started = subprocess.Popen(words, cwd=WORK, env=variables(), stdout=log, stderr=log)
         self.addCleanup(self.end, started)
 
     @staticmethod
@@ -316,11 +314,11 @@ class Dask(unittest.TestCase):
     def rides(self, count, minutes):
         """Rides in a folder, each with the figures that its text has, before a file is made of it."""
         folder = os.path.join(WORK, "dask rides")
-        self.assertEqual(run("examples/python/make_rides.py", folder, str(count), str(minutes)).returncode, 0)
-        sys.modules["gazhdor"] = types.SimpleNamespace(from_csv=lambda text: text)
-        spec = importlib.util.spec_from_file_location("make_rides", "examples/python/make_rides.py")
+        self.assertEqual(run(example("make_rides.py"), folder, str(count), str(minutes), env=variables(PYTHONPATH=PYTHON)).returncode, 0)
+        spec = importlib.util.spec_from_file_location("rides_as_text", example("make_rides.py"))
         made = importlib.util.module_from_spec(spec)
-        spec.loader.exec_module(made)
+        with unittest.mock.patch.dict(sys.modules, gazhdor=types.SimpleNamespace(from_csv=lambda text: text)):
+            spec.loader.exec_module(made)
         wanted = {}
         for seed in range(count):
             text = made.ride(seed, minutes)
@@ -333,18 +331,18 @@ class Dask(unittest.TestCase):
         """By a scheduler and two workers of its own: more rides than a task has, one that is cut, and one that can't be read."""
         pythons = [python for python in (sys.executable, "/usr/bin/python3") if os.path.exists(python)]
         pythons = [python for python in pythons if run("-c", "import dask.distributed", python=python).returncode == 0]
-        has(self, pythons, "dask.distributed (Debian's python3-distributed), so examples/python/dask_rides.py isn't tried")
+        has(pythons, "dask.distributed (Debian's python3-distributed), so examples/python/dask_rides.py isn't tried")
         self.python, self.scheduler = pythons[0], os.path.join(WORK, "scheduler.json")
         self.start("scheduler", "--port", "0")
         for _ in range(2):
             self.start("worker", "--nthreads", "1", "--no-nanny", "--local-directory", WORK)
         folder, wanted = self.rides(27, 1)
         cut, none = os.path.join(folder, "cut.fit"), os.path.join(folder, "none.fit")
-        with open(RIDE, "rb") as whole, open(cut, "wb") as file:
-            file.write(whole.read()[:2000])
+        with open(cut, "wb") as file:
+            file.write(BYTES[:2000])
         os.mkdir(none)
         wheel = wheel_in(os.path.join(WORK, "sent"))
-        done = run("examples/python/dask_rides.py", self.address(), wheel, folder, python=self.python, env=dict(os.environ, PYTHONPATH=""), timeout=120)
+        done = run(example("dask_rides.py"), self.address(), wheel, folder, python=self.python, timeout=120)
         self.assertEqual(done.returncode, 0, done.stderr.decode())
         said = done.stderr.decode().splitlines()
         self.assertEqual(said[:2], [f"{cut}: truncated at byte 2000", f"{none}: [Errno 21] Is a directory: {none!r}"])

@@ -12,20 +12,15 @@ import threading
 import tracemalloc
 import unittest
 
+from support import BYTES, RIDE, folder, known, left_out
+from fits import DESCRIBE, SMALL, UINT16, UINT32, UINT8, any_file, define, describe, fit
+
 import gazhdor
 from gazhdor._library import library, text_of
 from gazhdor._streams import each
-from python_fits import *
 
-RIDE = "examples/ride.fit"
-with open(RIDE, "rb") as file:
-    BYTES = file.read()
-WORK = sys.argv.pop()
-subprocess.run(["tests/known", WORK], check=True)
-KNOWN = {}
-for name in os.listdir(WORK):
-    with open(os.path.join(WORK, name), "rb") as file:
-        KNOWN[name[:-4]] = file.read()
+WORK = folder()
+KNOWN = known()
 TEXTS = {"show": gazhdor.show, "table": gazhdor.table_text, "to_csv": gazhdor.to_csv}
 KINDS = [*TEXTS, "check", "messages", "blocks"]
 
@@ -314,8 +309,7 @@ class Sources(unittest.TestCase):
 
     def test_columns(self):
         if not self.has_numpy():
-            print("tests/python: there is no numpy, so columns of pieces aren't tried", file=sys.stderr)
-            self.skipTest("numpy")
+            left_out("there is no numpy, so columns of pieces aren't tried")
         for data, size in self.many(20260106):
             for fields in (None, ["timestamp", ".place", 3, *(["Own"] if data == self.odd else []), (0, 0), "altitude"]):
                 found, wanted = gazhdor.columns(Few(data, size), "record", fields), gazhdor.columns(data, "record", fields)

@@ -17,15 +17,11 @@ import threading
 import tracemalloc
 import unittest
 
+from support import RIDE, bytes_at, left_out
+from fits import SMALL, define, fit
+
 import gazhdor
-from python_fits import SMALL, define, fit
 
-RIDE = "examples/ride.fit"
-
-
-def bytes_at(path):
-    with open(path, "rb") as file:
-        return file.read()
 
 
 class Slow(io.RawIOBase):
@@ -268,7 +264,7 @@ class Hostile(unittest.TestCase):
         with open("/proc/meminfo") as file:
             free = {line.split(":")[0]: int(line.split()[1]) for line in file}["MemAvailable"]
         if free < 6 * 2**20:
-            self.skipTest("there is too little memory")
+            left_out("there is too little memory for a text of 4 GiB")
         done = subprocess.run([sys.executable, "-c", program], stdout=subprocess.PIPE)
         self.assertEqual(done.stdout, b"True\nTrue\n")
 

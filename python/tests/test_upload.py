@@ -17,15 +17,14 @@ import threading
 import time
 import unittest
 
+from support import BYTES, example, left_out, run
+
 import gazhdor
 
-sys.path.insert(0, "examples/python")
+sys.path.insert(0, example(""))
 import make_rides
 import upload
 
-RIDE = "examples/ride.fit"
-with open(RIDE, "rb") as file:
-    BYTES = file.read()
 BROWSERS = ("chromium", "chromium-browser", "google-chrome")
 
 
@@ -86,7 +85,7 @@ class Running:
     """The server, as a program of its own."""
 
     def __init__(self, *words):
-        self.program = subprocess.Popen([sys.executable, "examples/python/upload.py", "--port", "0", *words], stdout=subprocess.PIPE, stderr=subprocess.DEVNULL)
+        self.program = subprocess.Popen([sys.executable, example("upload.py"), "--port", "0", *words], stdout=subprocess.PIPE, stderr=subprocess.DEVNULL)
         self.port = int(self.program.stdout.readline().decode().split(":")[2].strip("/\n"))
 
     def __enter__(self):
@@ -318,8 +317,7 @@ class Page(unittest.TestCase):
         """The page after these bytes were dropped on it."""
         browser = next(filter(None, map(shutil.which, BROWSERS)), None)
         if browser is None:
-            print("tests/python: there is no Chromium, so what the page of uploads draws isn't looked at", file=sys.stderr)
-            self.skipTest("no Chromium")
+            left_out("there is no Chromium, so what the page of uploads draws isn't looked at")
         handler = type("Handler", (Dropping,), {"data": data})
         with served(handler) as (_, port), tempfile.TemporaryDirectory() as folder:
             words = ["--headless", "--no-sandbox", "--disable-gpu", f"--user-data-dir={folder}", "--virtual-time-budget=20000", "--dump-dom"]
@@ -369,7 +367,7 @@ class Loading(unittest.TestCase):
                 with open(path, "wb") as file:
                     file.write(BYTES)
             database = os.path.join(inner, b"rides.db")
-            done = subprocess.run([sys.executable, "examples/python/load_rides.py", database, "2", *paths], stdout=subprocess.PIPE, stderr=subprocess.PIPE)
+            done = run(example("load_rides.py"), database, "2", *paths)
             self.assertEqual((done.returncode, done.stderr), (0, b""))
             self.assertIn(b"4 files, 1 not good, 432 rows", done.stdout)
             with contextlib.closing(sqlite3.connect(os.fsdecode(database))) as into:

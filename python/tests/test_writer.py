@@ -6,9 +6,12 @@ import random
 import struct
 import unittest
 
+from fits import (
+    DESCRIBE, FLOAT32, FLOAT64, SINT16, SINT32, SINT64, UINT16, UINT32, UINT64, UINT8, define, describe, fit, packed,
+)
+from made import one, through_values, whole, written
+
 import gazhdor
-from python_fits import DESCRIBE, FLOAT32, FLOAT64, SINT16, SINT32, SINT64, UINT8, UINT16, UINT32, UINT64, define, describe, fit, packed
-from python_made import one, through_values, whole, written
 
 try:
     import numpy
