@@ -1,17 +1,30 @@
 /* What the WebAssembly module must answer: what the library for x86-64 answers, byte for byte, of all bytes at once, in pieces, and where memory is
- * refused: node wasm_cases.mjs FOLDER, in which tests/wasm_expected.py has laid inputs and answers. */
+ * refused. expected.py lays the inputs down, and what the library answers. */
 import assert from "node:assert/strict"
-import { readFileSync, readdirSync } from "node:fs"
+import { execFileSync } from "node:child_process"
+import { readFileSync, writeFileSync } from "node:fs"
 import { join } from "node:path"
+import { test } from "node:test"
 import { gzipSync } from "node:zlib"
-import { OutOfMemory, Trapped, WrongModule } from "../js/src/answers.mjs"
-import { copied } from "../js/src/core.mjs"
-import { Stream, VERSION, open } from "../js/gazhdor.mjs"
-import { MODULE, RIDE, bytesAt, cut, exportsOf, holds, done, joined, opened, random, sha256, thrown, trapping } from "./wasm_tools.mjs"
+import { OutOfMemory, Trapped, WrongModule } from "../src/answers.mjs"
+import { copied } from "../src/core.mjs"
+import { Stream, VERSION, open } from "../gazhdor.mjs"
+import { MODULE, RIDE, allFiles, bytesAt, cut, exportsOf, folder, inTree, joined, needs, opened, random, sha256, textAt, thrown, trapping } from "./tools.mjs"
 
-const folder = process.argv[2]
-const expected = JSON.parse(readFileSync(join(folder, "expected.json"), "utf8"))
-const bytesOf = name => bytesAt(join(folder, name))
+const LIBRARY = process.env.GAZHDOR_LIBRARY ?? inTree("release/x86_64-linux/libgazhdor.so")
+const files = await allFiles()
+const place = folder()
+const bytesOf = name => bytesAt(join(place, name))
+const beside = process.platform === "linux" && process.arch === "x64" ? needs("python3") : { skip: "this is no x86-64 Linux, whose library answers too" }
+const expected = "skip" in beside ? [] : told()
+
+/* The inputs, made of the files, and what the library answers of each. */
+function told() {
+    for (const [name, bytes] of Object.entries(files)) writeFileSync(join(place, name), bytes)
+    execFileSync("python3", [inTree("js/tests/expected.py"), LIBRARY, place, ...Object.keys(files).map(name => join(place, name))])
+    return JSON.parse(readFileSync(join(place, "expected.json"), "utf8"))
+}
+
 const KINDS = { show: "show", table: "table", to_csv: "toCsv", messages: "blocks" }
 const NUMBERS = { check: 0, show: 1, table: 2, to_csv: 3, messages: 4 }
 const core = await opened()
@@ -31,18 +44,18 @@ function same(answer, made, told, what) {
     assert.equal(sha256(made), told.sha256, what)
 }
 
-await holds("the module has all calls, no import, and is no larger than it may be", async () => {
+test("the module has all calls, no import, and is no larger than it may be", async () => {
     const calls = ["check", "table", "to_csv", "show", "messages", "from_csv", "from_messages", "open", "feed", "finish", "close", "alloc", "free", "version"]
     const module = await WebAssembly.compile(MODULE)
     assert.deepEqual(WebAssembly.Module.imports(module), [])
     assert.deepEqual(WebAssembly.Module.exports(module).map(({ name }) => name).sort(), [...calls.map(name => `gazhdor_${name}`), "memory"].sort())
     assert.ok(MODULE.length <= 500 * 1024, `${MODULE.length} bytes`)
     assert.ok(gzipSync(MODULE, { level: 9 }).length <= 160 * 1024, "gzipped")
-    assert.equal(VERSION, readFileSync("VERSION", "utf8").trim())
-    assert.equal(JSON.parse(readFileSync("js/package.json", "utf8")).version, VERSION)
+    assert.equal(VERSION, textAt("VERSION").trim())
+    assert.equal(JSON.parse(textAt("js/package.json")).version, VERSION)
 })
 
-await holds("each call on each input", () => {
+test("each call on each input", beside, () => {
     for (const { name, check, calls } of expected) {
         const bytes = bytesOf(name)
         if (check !== undefined) assert.deepEqual(numbers(core.check(bytes)), check, name)
@@ -53,7 +66,7 @@ await holds("each call on each input", () => {
     assert.ok(new Set(expected.flatMap(({ calls }) => calls.from_messages?.answer[1] ?? [])).size >= 10, "reasons of blocks")
 })
 
-await holds("no call keeps memory", () => {
+test("no call keeps memory", () => {
     const calls = count => { for (let k = 0; k < count; k++) for (const call of Object.keys(KINDS)) core.make(call, RIDE, copied) }
     calls(1)
     const size = core.size
@@ -61,7 +74,7 @@ await holds("no call keeps memory", () => {
     assert.equal(core.size, size)
 })
 
-await holds("no stream within a call stays open", async () => {
+test("no stream within a call stays open", async () => {
     const gazhdor = await open(MODULE), many = joined(Array(100).fill(RIDE)), cut = many.subarray(0, -9)
     const calls = [
         () => gazhdor.check(many), () => gazhdor.columns(cut, "lap", ["timestamp"], { partial: true }), () => gazhdor.mend(RIDE.subarray(0, 3000)),
@@ -93,16 +106,16 @@ function fed(call, pieces) {
     }
 }
 
-const known = readdirSync(folder).filter(name => /^(empty|zeros|short|long|message|orders|developer|both)\.fit$/.test(name))
-const told = Object.fromEntries(expected.map(one => [one.name, one]))
+const known = ["empty", "zeros", "short", "long", "message", "orders", "developer", "both"].map(name => `${name}.fit`)
+const byName = Object.fromEntries(expected.map(one => [one.name, one]))
 
 function seePieces(name, pieces, what) {
-    for (const [call, one] of Object.entries(told[name].calls)) same(...fed(call, pieces), { ...one, answer: told[name].check }, `${call} of ${name} ${what}`)
-    assert.deepEqual(numbers(fed("check", pieces)[0]), told[name].check)
+    const { calls, check } = byName[name]
+    for (const [call, one] of Object.entries(calls)) same(...fed(call, pieces), { ...one, answer: check }, `${call} of ${name} ${what}`)
+    assert.deepEqual(numbers(fed("check", pieces)[0]), check)
 }
 
-await holds("known files in each two pieces, and in pieces of each size", () => {
-    assert.equal(known.length, 8)
+test("known files in each two pieces, and in pieces of each size", beside, () => {
     for (const name of known) {
         const bytes = bytesOf(name)
         for (let at = 0; at <= bytes.length; at++) seePieces(name, cut(bytes, [at]), `cut at ${at}`)
@@ -113,7 +126,7 @@ await holds("known files in each two pieces, and in pieces of each size", () => 
     }
 })
 
-await holds("the ride and recordings in random pieces, and damaged ones", () => {
+test("the ride and recordings in random pieces, and damaged ones", beside, () => {
     const below = random(1)
     for (const { name } of expected.filter(({ check }) => check !== undefined).slice(0, 300)) {
         const bytes = bytesOf(name), ends = Array.from({ length: 1 + below(20) }, () => below(bytes.length + 1)).sort((a, b) => a - b)
@@ -122,7 +135,7 @@ await holds("the ride and recordings in random pieces, and damaged ones", () => 
     seePieces("ride.fit", Array.from(RIDE, byte => Uint8Array.of(byte)), "byte by byte")
 })
 
-await holds("a stream that is refused memory, and one of no such kind", async () => {
+test("a stream that is refused memory, and one of no such kind", async () => {
     assert.equal(core.open(5), 0n)
     assert.equal(core.open(0xffffffff), 0n)
 })
@@ -148,8 +161,8 @@ async function seeRefused(maximum, recording, texts) {
     return refused
 }
 
-await holds("memory that is refused is an answer", async () => {
-    const recording = bytesOf("recorded-plain.fit"), whole = await open(MODULE)
+test("memory that is refused is an answer", needs("cc"), async () => {
+    const recording = files["recorded-plain.fit"], whole = await open(MODULE)
     const texts = Object.fromEntries(TEXTS.map(call => [call, sha256(whole[call](recording))]))
     const counts = []
     for (let pages = 0; pages < 60; pages += 3) counts.push(await seeRefused(LEAST + 65536 * pages, recording, texts))
@@ -158,12 +171,12 @@ await holds("memory that is refused is an answer", async () => {
     assert.equal((await seeRefused(2 ** 24, recording, texts)), 0)
 })
 
-await holds("a memory that is too small or too large", async () => {
+test("a memory that is too small or too large", async () => {
     for (const maximum of [0, 65536, 2 ** 33, -1, NaN, Infinity]) await assert.rejects(open(MODULE, { maximum }), RangeError)
     await assert.rejects(open(await WebAssembly.compile(MODULE), { maximum: 2 ** 24 }), TypeError)
 })
 
-await holds("bytes that don't fit into the memory, and a stream of them that does", async () => {
+test("bytes that don't fit into the memory, and a stream of them that does", async () => {
     const gazhdor = await open(MODULE, { maximum: 2 ** 22 }), many = joined(Array(2000).fill(RIDE))
     thrown(OutOfMemory, () => gazhdor.tableText(many))
     assert.equal(`${gazhdor.check(many)} ${gazhdor.check(many).files}`, "ok 2000")
@@ -173,7 +186,7 @@ await holds("bytes that don't fit into the memory, and a stream of them that doe
     assert.ok(gazhdor.size <= 2 ** 22)
 })
 
-await holds("a module that traps says so, and another one works", async () => {
+test("a module that traps says so, and another one works", async () => {
     const calls = {
         check: "check", table: "tableText", to_csv: "toCsv", show: "show", messages: "blocks", from_messages: "fromBlocks", feed: "columns",
     }
@@ -191,12 +204,10 @@ await holds("a module that traps says so, and another one works", async () => {
     }
 })
 
-await holds("what is no module of gazhdor", async () => {
+test("what is no module of gazhdor", async () => {
     await assert.rejects(open(RIDE), WebAssembly.CompileError)
     await assert.rejects(open(Uint8Array.of(0, 97, 115, 109, 1, 0, 0, 0)), WrongModule)
     const at = Buffer.from(MODULE).indexOf(VERSION), older = Uint8Array.from(MODULE)
     older[at] += 1
     await assert.rejects(open(older), /the module is of version 1\..*, and gazhdor.mjs of version 0\./)
 })
-
-done("tests/wasm, calls")

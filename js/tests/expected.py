@@ -1,5 +1,5 @@
 #!/usr/bin/env python3
-"""Makes inputs for the WebAssembly module, and what the library for x86-64 answers of them: wasm_expected.py LIBRARY FOLDER FILE..
+"""Makes inputs for the WebAssembly module, and what the library for x86-64 answers of them: expected.py LIBRARY FOLDER FILE..
 
 Into the folder come the FILEs, 1,000 files that are made of them by damage, texts and blocks of both kinds, and expected.json: for each input and each call
 the numbers of the answer, and length and SHA-256 of what was made."""

@@ -1,6 +1,6 @@
 /* Tests of js/heap.c and js/wide.c, which the WebAssembly module has in place of malloc and of the compiler's arithmetic of 128 bits:
  *
- *     cc -std=gnu11 -O2 -no-pie tests/wasm_heap.c -Wl,--defsym=__heap_base=0x10000010 -o heap && ./heap
+ *     cc -std=gnu11 -O2 -no-pie js/tests/heap.c -Wl,--defsym=__heap_base=0x10000010 -o heap && ./heap
  *
  * The memory of the module is an area of this program at a fixed place, whose pages are counted here, and refused where a test says so. */
 #define GAZHDOR_VERSION "0"
@@ -17,7 +17,7 @@ static unsigned long grow(unsigned long more)
     return fake_pages - more;
 }
 #define export_name(name) unused
-#include "../js/heap.c"
+#include "../heap.c"
 #undef export_name
 
 #define __multi3 own_multi3
@@ -29,7 +29,7 @@ static unsigned long grow(unsigned long more)
 #define __lshrti3 own_lshrti3
 #define __ashrti3 own_ashrti3
 #define whole wide
-#include "../js/wide.c"
+#include "../wide.c"
 #undef whole
 
 #include <stdio.h>
@@ -52,7 +52,7 @@ static unsigned long long some(void)
 static void must(int holds, const char *what)
 {
     if (!holds) {
-        printf("tests/wasm_heap.c: %s\n", what);
+        printf("heap.c: %s\n", what);
         exit(1);
     }
 }

@@ -1,25 +1,28 @@
-/* What docs/ride.html must show in Chromium, of a good file, a cut one and hostile ones, and that nothing goes to a network:
- *
- *     node wasm_page.mjs CHROMIUM FOLDER          FOLDER is for what is saved
- *     node wasm_page.mjs CHROMIUM FOLDER FILE..   writes pictures of FILEs as a desktop and a phone show them, to be looked at */
+/* What docs/ride.html must show in Chromium, of a good file, a cut one and hostile ones, and that nothing goes to a network. */
 import assert from "node:assert/strict"
+import { spawnSync } from "node:child_process"
 import { existsSync, readFileSync, writeFileSync } from "node:fs"
 import { createServer } from "node:http"
-import { basename, extname, join, resolve } from "node:path"
-import { pathToFileURL } from "node:url"
-import { open } from "../js/gazhdor.mjs"
-import { Browser, Page } from "./wasm_browser.mjs"
-import { RIDE, done, holds } from "./wasm_tools.mjs"
+import { extname, join } from "node:path"
+import { after, test } from "node:test"
+import { open } from "../gazhdor.mjs"
+import { Browser, Page } from "./browser.mjs"
+import { RIDE, folder, inTree, needs, program } from "./tools.mjs"
 
-const [program, folder, ...files] = process.argv.slice(2)
-const URL_OF_PAGE = pathToFileURL(resolve("docs/ride.html")).href
+const BROWSERS = ["chromium", "chromium-browser", "google-chrome"]
+const URL_OF_PAGE = new URL("../../docs/ride.html", import.meta.url).href
 const gazhdor = await open()
-const browser = new Browser(program)
-await browser.ask("Browser.setDownloadBehavior", { behavior: "allow", downloadPath: resolve(folder) })
+const place = folder()
+const chromium = program(...BROWSERS)
+const browser = chromium === undefined ? null : new Browser(chromium)
+if (browser !== null) {
+    await browser.ask("Browser.setDownloadBehavior", { behavior: "allow", downloadPath: place })
+    after(() => browser.close())
+}
 
 /* Lays a file down under a name, for the page to be given. */
 function laid(name, bytes) {
-    const path = resolve(folder, name)
+    const path = join(place, name)
     writeFileSync(path, bytes)
     return path
 }
@@ -29,24 +32,14 @@ async function saved(page, call, name) {
     await page.value(`document.querySelector('[data-call=${call}]').click()`)
     await page.until("document.querySelector('#saved').textContent !== ''")
     assert.ok((await page.text("#saved")).startsWith(`${name}: `), await page.text("#saved"))
-    for (let k = 0; k < 100 && !existsSync(join(folder, name)); k++) await new Promise(wait => setTimeout(wait, 50))
-    return readFileSync(join(folder, name))
+    for (let k = 0; k < 100 && !existsSync(join(place, name)); k++) await new Promise(wait => setTimeout(wait, 50))
+    return readFileSync(join(place, name))
 }
 
 /* The page asked for nothing but itself, and no script failed. */
 function seeQuiet(page) {
     assert.deepEqual(page.faults, [])
     assert.deepEqual(page.requests.filter(url => !/^(file|data|blob):/.test(url)), [])
-}
-
-async function pictures(path) {
-    for (const [name, size] of [["desktop", { width: 1200, height: 900 }], ["phone", { width: 390, height: 844, scale: 2 }]]) {
-        const page = await Page.open(browser, URL_OF_PAGE, size)
-        await page.give(resolve(path))
-        writeFileSync(join(folder, `${basename(path)}.${name}.png`), await page.picture())
-        console.log(`${name}: ${await page.text("#finding")}`)
-        seeQuiet(page)
-    }
 }
 
 async function seeGood() {
@@ -76,7 +69,7 @@ async function seeCut() {
     const text = /^cut\.fit: truncated at byte 2000\n+The bytes end at 2000, before the file does\. .*What comes before that is shown/
     assert.match(await page.text("#finding"), text)
     assert.deepEqual(await saved(page, "mended", "cut-mended.fit"), Buffer.from(gazhdor.mend(cut)))
-    await page.give(join(folder, "cut-mended.fit"))
+    await page.give(join(place, "cut-mended.fit"))
     assert.match(await page.text("#finding"), /a good FIT file/)
     await page.give(laid("text.fit", Buffer.from("<gpx></gpx>")))
     assert.match(await page.text("#finding"), /^text\.fit: refused at byte 1: Protocol\n/)
@@ -165,9 +158,9 @@ async function seeNetwork() {
 async function seeServed() {
     const types = { ".mjs": "text/javascript", ".wasm": "application/wasm", ".fit": "application/octet-stream" }
     const server = createServer(({ url }, response) => {
-        const path = url.endsWith("/ride.fit") ? "examples/ride.fit" : `js${url}`
+        const path = inTree(url.endsWith("/ride.fit") ? "examples/ride.fit" : `js${url}`)
         if (url === "/") response.writeHead(200, { "content-type": "text/html" }).end("<body data-state=ready>")
-        else if (/^[\w/.]+$/.test(path) && existsSync(path)) response.writeHead(200, { "content-type": types[extname(path)] }).end(readFileSync(path))
+        else if (/^[\w/.]+$/.test(url) && existsSync(path)) response.writeHead(200, { "content-type": types[extname(path)] }).end(readFileSync(path))
         else response.writeHead(404).end()
     })
     await new Promise(listening => server.listen(0, "127.0.0.1", listening))
@@ -187,17 +180,15 @@ async function seeServed() {
     assert.deepEqual(told, ["ok", 144, 149, "gazhdor: none.wasm: 404 Not Found", 7, 8558.46, "2026-05-17T07:30:00.000Z"])
 }
 
-try {
-    if (files.length) for (const path of files) await pictures(path)
-    else {
-        await holds("a good file", seeGood)
-        await holds("cut files, a mended one, and what is none", seeCut)
-        await holds("hostile files", seeHostile)
-        await holds("a phone's width", seePhone)
-        await holds("nothing goes to a network", seeNetwork)
-        await holds("the package on a site", seeServed)
-        done("tests/wasm, page")
-    }
-} finally {
-    await browser.close()
-}
+test("the page is of these files", needs("python3"), () => {
+    const { status, stderr } = spawnSync(inTree("js/page"), ["--check"])
+    assert.equal(status, 0, String(stderr))
+})
+// A browser that ends early, or a page that is not there, would be waited for.
+const how = { ...needs(...BROWSERS), timeout: 300000 }
+test("a good file", how, seeGood)
+test("cut files, a mended one, and what is none", how, seeCut)
+test("hostile files", how, seeHostile)
+test("a phone's width", how, seePhone)
+test("nothing goes to a network", how, seeNetwork)
+test("the package on a site", how, seeServed)

@@ -1,10 +1,13 @@
-/* What streams of the wrapper must do, and the Worker: node --expose-gc wasm_streams.mjs */
+/* What streams of the wrapper must do, and the Worker. */
 import assert from "node:assert/strict"
 import { once } from "node:events"
+import { test } from "node:test"
+import { setFlagsFromString } from "node:v8"
+import { runInNewContext } from "node:vm"
 import { Worker } from "node:worker_threads"
-import { FitError, Refused, Truncated } from "../js/src/answers.mjs"
-import { Stream, open } from "../js/gazhdor.mjs"
-import { RIDE, cut, done, holds, joined, random, thrown } from "./wasm_tools.mjs"
+import { FitError, Refused, Truncated } from "../src/answers.mjs"
+import { Stream, open } from "../gazhdor.mjs"
+import { RIDE, cut, joined, random, thrown } from "./tools.mjs"
 
 const gazhdor = await open()
 const WRONG = RIDE.slice()
@@ -28,14 +31,14 @@ function fed(kind, pieces, options) {
     }
 }
 
-await holds("texts and messages in pieces", () => {
+test("texts and messages in pieces", () => {
     for (const [kind, call] of Object.entries(TEXTS)) assert.equal(fed(kind, PIECES)[0].join(""), gazhdor[call](RIDE))
     assert.deepEqual(places(fed("messages", PIECES)[0]), places([...gazhdor.messages(RIDE)]))
     assert.deepEqual(places(fed("messages", PIECES, { only: ["lap", 20] })[0]), places([...gazhdor.messages(RIDE, { only: ["lap", 20] })]))
     assert.deepEqual([fed("check", [...PIECES, RIDE])[0].join(""), fed("check", [...PIECES, RIDE])[2]], ["", 2])
 })
 
-await holds("faults in pieces: what was made before, and the same again", () => {
+test("faults in pieces: what was made before, and the same again", () => {
     for (const [bytes, kind, place] of [[WRONG, Refused, RIDE.length - 2], [CUT, Truncated, 2500]]) {
         const [made, fault] = fed("table", cut(bytes, [1200, 2499]))
         assert.ok(fault instanceof kind && fault.place === place)
@@ -47,7 +50,7 @@ await holds("faults in pieces: what was made before, and the same again", () => 
     }
 })
 
-await holds("what isn't a stream, or isn't open", () => {
+test("what isn't a stream, or isn't open", () => {
     for (const kind of ["rows", "Table", 2, null, undefined, "__proto__", "toString"]) thrown(TypeError, () => new Stream(gazhdor, kind))
     thrown(TypeError, () => new Stream(gazhdor, "table", { only: "lap" }))
     thrown(TypeError, () => new Stream({}, "table"))
@@ -60,7 +63,7 @@ await holds("what isn't a stream, or isn't open", () => {
     thrown(TypeError, () => stream.finish())
 })
 
-await holds("many streams by turns", () => {
+test("many streams by turns", () => {
     const below = random(7), kinds = Array.from({ length: 40 }, (_, k) => Object.keys(TEXTS)[k % 3])
     const all = kinds.map(kind => ({ kind, stream: new Stream(gazhdor, kind), at: 0, text: "" }))
     while (all.some(one => one.at < RIDE.length)) {
@@ -71,10 +74,11 @@ await holds("many streams by turns", () => {
     for (const one of all) assert.equal(one.text + one.stream.finish(), gazhdor[TEXTS[one.kind]](RIDE))
 })
 
-await holds("streams that nobody closes are closed", async () => {
-    const other = await open()
+test("streams that nobody closes are closed", async () => {
+    setFlagsFromString("--expose-gc")
+    const other = await open(), collect = runInNewContext("gc")
     const use = count => { for (let k = 0; k < count; k++) new Stream(other, "messages").feed(CUT) }
-    const settle = async () => { for (let k = 0; k < 10; k++) { globalThis.gc(); await new Promise(done => setTimeout(done, 5)) } }
+    const settle = async () => { for (let k = 0; k < 10; k++) { collect(); await new Promise(done => setTimeout(done, 5)) } }
     for (let k = 0; k < 3; k++) use(2000), await settle()
     const size = other.size
     for (let k = 0; k < 5; k++) use(2000), await settle()
@@ -98,7 +102,7 @@ async function taken(readable) {
     }
 }
 
-await holds("a pair of streams gives all that the bytes make", async () => {
+test("a pair of streams gives all that the bytes make", async () => {
     for (const [kind, call] of Object.entries(TEXTS)) {
         const [made, fault] = await taken(source([...PIECES]).pipeThrough(gazhdor.stream(kind)))
         assert.deepEqual([made.join(""), fault], [gazhdor[call](RIDE), null])
@@ -111,7 +115,7 @@ await holds("a pair of streams gives all that the bytes make", async () => {
     assert.equal((await taken(response))[0].length, [...gazhdor.messages(RIDE)].length)
 })
 
-await holds("a pair of streams gives all that comes before a fault, and then the fault", async () => {
+test("a pair of streams gives all that comes before a fault, and then the fault", async () => {
     for (const [bytes, kind] of [[WRONG, Refused], [CUT, Truncated]])
         for (const ends of [[], [1000], [1000, 2400, 2499]]) {
             const [made, fault] = await taken(source(cut(bytes, ends)).pipeThrough(gazhdor.stream("messages")))
@@ -124,7 +128,7 @@ await holds("a pair of streams gives all that comes before a fault, and then the
     assert.deepEqual([joined(passed), fault.place], [CUT, 2500])
 })
 
-await holds("no more is sent after a byte that is refused", async () => {
+test("no more is sent after a byte that is refused", async () => {
     let sent = 0, cancelled
     const upload = new ReadableStream({
         pull(controller) { sent++; controller.enqueue(sent === 1 ? WRONG : RIDE) },
@@ -134,7 +138,7 @@ await holds("no more is sent after a byte that is refused", async () => {
     assert.ok(fault instanceof Refused && cancelled === fault && sent <= 3, `${sent}`)
 })
 
-await holds("bytes wait for who reads", async () => {
+test("bytes wait for who reads", async () => {
     let sent = 0
     const upload = new ReadableStream({ pull(controller) { sent++; controller.enqueue(RIDE) } })
     const reader = upload.pipeThrough(gazhdor.stream("messages")).getReader()
@@ -146,7 +150,7 @@ await holds("bytes wait for who reads", async () => {
     await reader.cancel()
 })
 
-await holds("who reads no more, and bytes that break off", async () => {
+test("who reads no more, and bytes that break off", async () => {
     const pair = gazhdor.stream("messages"), writer = pair.writable.getWriter(), reader = pair.readable.getReader()
     writer.write(RIDE).catch(() => {})
     assert.equal((await reader.read()).value.name, "file_id")
@@ -161,7 +165,7 @@ await holds("who reads no more, and bytes that break off", async () => {
 
 /* One request after another to the Worker, and its answers. */
 async function asked(requests) {
-    const worker = new Worker(new URL("../js/worker.mjs", import.meta.url)), answers = []
+    const worker = new Worker(new URL("../worker.mjs", import.meta.url)), answers = []
     try {
         for (const [number, [call, ...words]] of requests.entries()) {
             const answer = once(worker, "message")
@@ -174,7 +178,7 @@ async function asked(requests) {
     }
 }
 
-await holds("the Worker", async () => {
+test("the Worker", async () => {
     const requests = [
         ["check", RIDE], ["check", CUT], ["columns", RIDE, "record", ["altitude"]], ["messages", RIDE, { only: "lap" }], ["tableText", RIDE],
         ["table", RIDE], ["mend", CUT], ["toCsv", CUT], ["fromCsv", gazhdor.toCsv(RIDE)], ["constructor", RIDE], ["check", 5], ["blocks", RIDE],
@@ -191,5 +195,3 @@ await holds("the Worker", async () => {
     assert.deepEqual([blocks, again, cut.name, cut.reason], [gazhdor.blocks(RIDE), RIDE, "BlocksRefused", "Cut"])
     assert.deepEqual([fault.name, fault.place, fault.text, none.name, five.name], ["Truncated", 2500, "truncated at byte 2500", "TypeError", "TypeError"])
 })
-
-done("tests/wasm, streams")

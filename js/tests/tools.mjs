@@ -1,14 +1,28 @@
-/* What the tests of the WebAssembly module share. */
+/* What the tests of the WebAssembly module and of its wrapper share. */
 import assert from "node:assert/strict"
+import { execFileSync, spawnSync } from "node:child_process"
 import { createHash } from "node:crypto"
-import { readFileSync } from "node:fs"
-import { Core } from "../js/src/core.mjs"
+import { mkdtempSync, readFileSync, readdirSync, rmSync } from "node:fs"
+import { tmpdir } from "node:os"
+import { join } from "node:path"
+import { fileURLToPath } from "node:url"
+import { Core } from "../src/core.mjs"
+import { open } from "../gazhdor.mjs"
 
-export const MODULE = readFileSync(new URL("../js/gazhdor.wasm", import.meta.url))
-export const RIDE = bytesAt("examples/ride.fit")
+const TREE = fileURLToPath(new URL("../../", import.meta.url))
+
+/* The path of a file of the tree. */
+export const inTree = name => join(TREE, name)
+
+export const MODULE = readFileSync(inTree("js/gazhdor.wasm"))
+export const RIDE = bytesAt(inTree("examples/ride.fit"))
 
 export function bytesAt(path) {
     return new Uint8Array(readFileSync(path))
+}
+
+export function textAt(name) {
+    return readFileSync(inTree(name), "utf8")
 }
 
 /* The module by its calls alone, as the wrapper makes them. */
@@ -18,22 +32,37 @@ export async function opened() {
 
 export const sha256 = bytes => createHash("sha256").update(bytes).digest("hex")
 
-let passed = 0, failed = 0
-
-/* Whether a test ends without throwing. */
-export async function holds(name, test) {
-    try {
-        await test()
-        passed++
-    } catch (error) {
-        failed++
-        console.log(`failed: ${name}\n${String(error.stack ?? error).split("\n").slice(0, 12).join("\n")}`)
-    }
+/* A new folder, which is removed in the end. */
+export function folder() {
+    const made = mkdtempSync(join(tmpdir(), "gazhdor-tests-"))
+    process.on("exit", () => rmSync(made, { recursive: true, force: true, maxRetries: 5 }))
+    return made
 }
 
-export function done(name) {
-    console.log(`${name}: ${passed} passed, ${failed} failed`)
-    process.exitCode = failed ? 1 : 0
+/* The first of these programs that is installed. */
+export function program(...names) {
+    return names.find(name => spawnSync("sh", ["-c", 'command -v "$0"', name]).status === 0)
+}
+
+/* For a test: to be left out where there is none of these programs. */
+export function needs(...names) {
+    return program(...names) === undefined ? { skip: `there is no ${names[0]}` } : {}
+}
+
+export const CC = program(process.env.CC ?? "cc")
+
+/* Files by their names: the ride, the known files, one of odd fields, and recordings of each kind, where there is a C compiler. */
+export async function allFiles() {
+    const made = folder(), files = { "ride.fit": RIDE, "mixed.fit": (await open()).fromCsv(textAt("tests/mixed.csv")) }
+    execFileSync(inTree("tests/known"), [made])
+    if (CC !== undefined) {
+        const recording = join(made, "recording")
+        execFileSync(CC, ["-std=gnu11", "-O2", inTree("bench/recording.c"), "-o", recording])
+        for (const kind of ["plain", "developer", "compressed", "turns", "definitions", "strings"])
+            execFileSync(recording, [kind, "40k", join(made, `recorded-${kind}.fit`)])
+    }
+    for (const name of readdirSync(made).filter(one => one.endsWith(".fit"))) files[name] = bytesAt(join(made, name))
+    return files
 }
 
 /* What a call throws, which has to be of a kind. */

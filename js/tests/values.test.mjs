@@ -1,17 +1,15 @@
 /* What messages, columns and rows must be: the cells of the CSV text and of the table, which the proved library writes, and values worked out by
- * hand: node wasm_values.mjs FILE.fit.. */
+ * hand. */
 import assert from "node:assert/strict"
-import { readFileSync } from "node:fs"
-import { basename } from "node:path"
-import { BLOCK_REASONS, BlocksRefused, FitError, REASONS, Refused, TextRefused, TooManyCells, Truncated } from "../js/src/answers.mjs"
-import { Stream, UnknownName, degrees, open, when } from "../js/gazhdor.mjs"
-import { Walk } from "../js/src/messages.mjs"
-import { PROFILE } from "../js/src/profile.mjs"
-import { RIDE, bytesAt, done, holds, joined, thrown } from "./wasm_tools.mjs"
+import { test } from "node:test"
+import { BLOCK_REASONS, BlocksRefused, FitError, REASONS, Refused, TextRefused, TooManyCells, Truncated } from "../src/answers.mjs"
+import { Stream, UnknownName, degrees, open, when } from "../gazhdor.mjs"
+import { Walk } from "../src/messages.mjs"
+import { PROFILE } from "../src/profile.mjs"
+import { RIDE, allFiles, joined, textAt, thrown } from "./tools.mjs"
 
 const gazhdor = await open()
-const files = process.argv.slice(2).map(path => [basename(path), bytesAt(path)])
-assert.ok(files.length >= 8)
+const files = Object.entries(await allFiles())
 
 /* The cells of a CSV text. */
 function rowsOf(text) {
@@ -90,7 +88,7 @@ function seeMessage(message, [, local, offset, name, time], cells) {
     })
 }
 
-await holds("each field of each message is as in its cell", () => {
+test("each field of each message is as in its cell", () => {
     for (const [name, bytes] of files) {
         const rows = rowsOf(gazhdor.toCsv(bytes)), messages = gazhdor.messages(bytes)
         let count = 0
@@ -105,7 +103,7 @@ await holds("each field of each message is as in its cell", () => {
     }
 })
 
-await holds("rows are those of the table", () => {
+test("rows are those of the table", () => {
     for (const [, bytes] of files) {
         const [head, ...lines] = gazhdor.tableText(bytes).trimEnd().split("\n"), rows = [...gazhdor.table(bytes)]
         assert.equal(rows.length, lines.length)
@@ -121,7 +119,7 @@ await holds("rows are those of the table", () => {
 const numberOf = value => (value === null ? NaN : Number(value))
 const sameNumber = (one, other) => (Number.isNaN(one) ? Number.isNaN(other) : one === other)
 
-await holds("columns are the values of the messages", () => {
+test("columns are the values of the messages", () => {
     for (const [file, bytes] of files) {
         const messages = [...gazhdor.messages(bytes)]
         for (const number of new Set(messages.map(message => message.number))) {
@@ -141,7 +139,7 @@ await holds("columns are the values of the messages", () => {
     }
 })
 
-await holds("columns of what a message tells of itself", () => {
+test("columns of what a message tells of itself", () => {
     for (const [, bytes] of files) {
         const names = {
             ".file": "file", ".place": "place", ".local": "local", ".seconds": "seconds", ".speed": "speed", ".distance": "distance",
@@ -179,7 +177,7 @@ field,field_name,${name},,,,
 field,units,,,,,
 `
 
-await holds("names that would hide others, and numbers of 64 bits", () => {
+test("names that would hide others, and numbers of 64 bits", () => {
     const names = ["timestamp", "field_3", ".time", "__proto__", "heart_rate"]
     const text = `${ROWS}${names.map((name, k) => described(k, 2, name)).join("")}def,1,0,little,20,5,5
 fdef,253,4,134,,,
@@ -210,7 +208,7 @@ ${names.map((name, k) => `dev,${name},${k + 1},,,,\n`).join("")}end,,,,,,
     assert.deepEqual([columns.timestamp[0], columns.heart_rate[0], columns.dev_0_4[0], columns["__proto__"][0]], [1631065600000, 120, 5, 4])
 })
 
-await holds("names, units, times and what isn't there", () => {
+test("names, units, times and what isn't there", () => {
     const [first] = gazhdor.messages(RIDE, { only: "record" })
     assert.deepEqual([first.name, first.number, first.local, first.file], ["record", 20, 5, 1])
     assert.deepEqual([first.unit("altitude"), first.get("altitude"), first.has("altitude")], ["m", 408, true])
@@ -228,7 +226,7 @@ await holds("names, units, times and what isn't there", () => {
     thrown(TypeError, () => when("1"))
 })
 
-await holds("only some messages", () => {
+test("only some messages", () => {
     const all = [...gazhdor.messages(RIDE)]
     const placesOf = messages => messages.map(({ place }) => place)
     for (const [only, wanted] of [["lap", ["lap"]], [20, ["record"]], [["lap", 20], ["lap", "record"]], [new Set([99999]), []], [[], []]])
@@ -236,8 +234,8 @@ await holds("only some messages", () => {
     for (const only of [{}, [null], true, [["lap"]]]) thrown(TypeError, () => gazhdor.messages(RIDE, { only }))
 })
 
-await holds("names that nothing has", () => {
-    const lines = readFileSync("profile/fields.tsv", "utf8").trimEnd().split("\n").slice(1).map(line => line.split("\t"))
+test("names that nothing has", () => {
+    const lines = textAt("profile/fields.tsv").trimEnd().split("\n").slice(1).map(line => line.split("\t"))
     const told = Object.entries(PROFILE).flatMap(([message, [number, fields]]) => fields.map(field => [String(number), message, field]))
     assert.deepEqual(told, lines.map(([number, message, , field]) => [number, message, field]))
     const only = { only: ["record", "laps"] }
@@ -252,7 +250,7 @@ await holds("names that nothing has", () => {
     assert.deepEqual(gazhdor.columns(RIDE, 31, ["field_5"]).field_5, ["Lake loop"])
 })
 
-await holds("faults: place and reason, and what comes before", () => {
+test("faults: place and reason, and what comes before", () => {
     const short = RIDE.subarray(0, 2000), wrong = RIDE.slice()
     wrong[2500] ^= 1
     const answer = gazhdor.check(wrong)
@@ -274,7 +272,7 @@ await holds("faults: place and reason, and what comes before", () => {
     assert.equal(thrown(TextRefused, () => gazhdor.fromCsv("")).message, "row 1 refused")
 })
 
-await holds("a mended file has all records before the fault", () => {
+test("a mended file has all records before the fault", () => {
     for (const [, bytes] of files.filter(([, all]) => all.length > 100))
         for (const end of [bytes.length - 1, bytes.length >> 1, bytes.length - 40]) {
             const mended = gazhdor.mend(bytes.subarray(0, end))
@@ -296,14 +294,14 @@ await holds("a mended file has all records before the fault", () => {
     assert.equal(thrown(Refused, () => gazhdor.mend(new TextEncoder().encode("<gpx></gpx>"))).reason, "Protocol")
 })
 
-await holds("a message of a definition that didn't come is none", () => {
+test("a message of a definition that didn't come is none", () => {
     const blocks = new Stream(gazhdor, "blocks").feed(RIDE), view = new DataView(blocks.buffer)
     assert.equal(new Walk().messages(blocks).length, 149)
     for (let at = 0; at < blocks.length; at += view.getUint32(at, true)) if (blocks[at + 4] === 3) view.setBigUint64(at + 24, 1000n, true)
     assert.throws(() => new Walk().messages(blocks), /without its definition/)
 })
 
-await holds("blocks give the same bytes again", () => {
+test("blocks give the same bytes again", () => {
     for (const [name, bytes] of files.filter(([, all]) => gazhdor.check(all).good)) {
         const blocks = gazhdor.blocks(bytes)
         assert.deepEqual(gazhdor.fromBlocks(blocks), bytes, name)
@@ -314,7 +312,7 @@ await holds("blocks give the same bytes again", () => {
     assert.deepEqual(gazhdor.fromBlocks(gazhdor.blocks(chain).buffer), chain)
 })
 
-await holds("a value that is changed in blocks is changed in the file", () => {
+test("a value that is changed in blocks is changed in the file", () => {
     // The first record of the ride has its altitude, field 2, 408 m, as 4540 fifths of a metre above -500 m.
     const blocks = gazhdor.blocks(RIDE), view = new DataView(blocks.buffer)
     let at = 0, definition = 0
@@ -330,7 +328,7 @@ await holds("a value that is changed in blocks is changed in the file", () => {
     assert.equal(changed.length, RIDE.length)
 })
 
-await holds("blocks that are refused", () => {
+test("blocks that are refused", () => {
     const blocks = gazhdor.blocks(RIDE), first = new DataView(blocks.buffer).getUint32(0, true)
     const told = (made, what) => {
         const { name, reason, block, place, message, row } = thrown(BlocksRefused, () => gazhdor.fromBlocks(made))
@@ -355,14 +353,14 @@ await holds("blocks that are refused", () => {
     told(gazhdor.blocks(RIDE.subarray(0, 14), { partial: true }), ["Cut", 1, first])
 })
 
-await holds("reasons in words are those of the tables", () => {
+test("reasons in words are those of the tables", () => {
     for (const [path, reasons] of [["profile/reasons.tsv", REASONS], ["profile/block_reasons.tsv", BLOCK_REASONS]]) {
-        const lines = readFileSync(path, "utf8").trimEnd().split("\n").slice(1)
+        const lines = textAt(path).trimEnd().split("\n").slice(1)
         assert.deepEqual(lines.map(line => line.split("\t")), Object.entries(reasons))
     }
 })
 
-await holds("what may be given as bytes", () => {
+test("what may be given as bytes", () => {
     const shared = new SharedArrayBuffer(RIDE.length), room = new ArrayBuffer(RIDE.length + 7)
     new Uint8Array(shared).set(RIDE)
     new Uint8Array(room, 5).set(RIDE.subarray(0, RIDE.length))
@@ -384,7 +382,7 @@ await holds("what may be given as bytes", () => {
     assert.equal(`${gazhdor.check(new Uint8Array(0))}`, "truncated at byte 0")
 })
 
-await holds("columns that would fill the memory", () => {
+test("columns that would fill the memory", () => {
     // A header, a definition of 250 fields of no bytes, and messages of one byte, which the end cuts off.
     const fields = Array.from({ length: 250 }, (_, k) => [k, 0, 2]).flat()
     const front = [12, 32, 0, 0, 0, 0, 0, 1, 0x2e, 0x46, 0x49, 0x54, 0x40, 0, 0, 0xe8, 3, 250, ...fields], many = new Uint8Array(front.length + 300000)
@@ -393,5 +391,3 @@ await holds("columns that would fill the memory", () => {
     assert.match(thrown(TooManyCells, () => gazhdor.columns(many, 1000, undefined, { partial: true })).message, /of 251 columns of \d+ messages/)
     assert.equal(gazhdor.columns(many, 1000, [7], { partial: true }).field_7.length, 300000)
 })
-
-done("tests/wasm, values")
