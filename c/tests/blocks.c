@@ -1,18 +1,7 @@
 /* Tests of gazhdor_messages and of what gazhdor.h reads its blocks with: blocks FILE ROUNDS. A chain of files whose blocks stand here, as
  * docs/BLOCKS.md says them; what the functions say of them; and the functions on blocks with random changes, by random arguments, so
  * that a compiler's checks, or valgrind, see a read outside a block. */
-#include "gazhdor.h"
-
-#include <stdio.h>
-#include <stdlib.h>
-
-#define WANT(what)                                                                  \
-    do {                                                                            \
-        if (!(what)) {                                                              \
-            fprintf(stderr, "blocks.c:%d: not so: %s\n", __LINE__, #what);          \
-            exit(1);                                                                \
-        }                                                                           \
-    } while (0)
+#include "want.h"
 
 /* ---- known blocks */
 
@@ -362,16 +351,12 @@ int main(int argc, char **argv)
     WANT(argc == 3);
     known_values();
     known_blocks();
-    FILE *file = fopen(argv[1], "rb");
-    static uint8_t bytes[1 << 20];
-    WANT(file != NULL);
-    size_t length = fread(bytes, 1, sizeof bytes, file);
-    fclose(file);
-    gazhdor_text blocks = GAZHDOR_NO_TEXT;
-    WANT(gazhdor_messages(bytes, length, &blocks).status == GAZHDOR_GOOD);
+    gazhdor_text file = file_of(argv[1], 1 << 20), blocks = GAZHDOR_NO_TEXT;
+    WANT(gazhdor_messages(file.bytes, file.length, &blocks).status == GAZHDOR_GOOD);
     read_all(blocks);
     for (long rounds = atol(argv[2]); rounds > 0; rounds--)
         torn(blocks);
     gazhdor_free(blocks);
+    free_file(file);
     return 0;
 }

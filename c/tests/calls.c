@@ -1,69 +1,14 @@
 /* Tests of the calls of gazhdor.h on a ride, by what must be so of any file: calls RIDE STEP. STEP 1 tries each front and each byte.
  * Blocks are counted, and each growth of memory is refused in turn: link with --wrap=malloc, realloc and free. */
-#include "gazhdor.h"
+#define COUNTED
+#include "want.h"
 
 #include <pthread.h>
-#include <stdio.h>
-#include <stdlib.h>
-#include <string.h>
-
-/* ---- memory: how many blocks there are, and which growth is to be refused; 0 for none */
-
-static __thread long blocks, growths, refused;
-
-void *__real_malloc(size_t size);
-void *__real_realloc(void *block, size_t size);
-void __real_free(void *block);
-
-static int refuses(void)
-{
-    return ++growths == refused;
-}
-
-void *__wrap_malloc(size_t size)
-{
-    void *block = refuses() ? NULL : __real_malloc(size);
-    blocks += block != NULL;
-    return block;
-}
-
-void *__wrap_realloc(void *old, size_t size)
-{
-    void *block = refuses() ? NULL : __real_realloc(old, size);
-    blocks += old == NULL && block != NULL;
-    return block;
-}
-
-void __wrap_free(void *block)
-{
-    blocks -= block != NULL;
-    __real_free(block);
-}
-
-/* ---- what is wanted */
-
-#define WANT(what)                                                                  \
-    do {                                                                            \
-        if (!(what)) {                                                              \
-            fprintf(stderr, "calls.c:%d: not so: %s\n", __LINE__, #what);           \
-            exit(1);                                                                \
-        }                                                                           \
-    } while (0)
 
 typedef gazhdor_answer call(const uint8_t *bytes, size_t length, gazhdor_text *text);
 static call *const calls[] = { gazhdor_table, gazhdor_to_csv, gazhdor_show, gazhdor_messages, gazhdor_from_csv, gazhdor_from_messages };
 static const char *const names[] = { "table", "to-csv", "show", NULL, "from-csv", "from-csv" };
 enum { CSV = 1, BLOCKS = 3, READERS = 4, FROM_CSV = 4, FROM_MESSAGES = 5, CALLS = 6 };
-
-static int is(gazhdor_answer a, uint32_t status, uint32_t reason, uint64_t place, uint64_t row, uint64_t column, uint64_t files)
-{
-    return a.status == status && a.reason == reason && a.place == place && a.row == row && a.column == column && a.files == files;
-}
-
-static int same(gazhdor_text a, gazhdor_text b)
-{
-    return a.length == b.length && memcmp(a.bytes, b.bytes, a.length) == 0;
-}
 
 static int begins(gazhdor_text front, gazhdor_text whole)
 {
@@ -81,7 +26,7 @@ static gazhdor_text input(int i)
     return i == FROM_CSV ? texts[CSV] : i == FROM_MESSAGES ? texts[BLOCKS] : bytes;
 }
 
-/* Each call on the whole ride; and its text is what the program writes, in the files that the folder has. It writes no blocks; tests/rows.c
+/* Each call on the whole ride; and its text is what the program writes, in the files that the folder has. It writes no blocks; rows.c
  * reads those. */
 static void whole(const char *folder)
 {
@@ -102,7 +47,7 @@ static void whole(const char *folder)
         fclose(file);
     }
     gazhdor_text bytes = { ride, length };
-    WANT(same(texts[FROM_CSV], bytes) && same(texts[FROM_MESSAGES], bytes));
+    WANT(same_text(texts[FROM_CSV], bytes) && same_text(texts[FROM_MESSAGES], bytes));
 }
 
 /* A front of a file is truncated at its end, and the text of what has come is a front of the text. The block has just that many
@@ -224,13 +169,13 @@ static void nothing(void)
         WANT(i == FROM_CSV ? is(answer, GAZHDOR_TEXT, 0, 0, 1, 0, 0) : i == FROM_MESSAGES ? is(answer, GAZHDOR_BLOCK, GAZHDOR_BLOCK_CUT, 0, 0, 0, 0)
                                                                                           : is(answer, GAZHDOR_TRUNCATED, 0, 0, 0, 0, 0));
         calls[i]((const uint8_t *)"", 0, &front);
-        WANT(same(text, front));
+        WANT(same_text(text, front));
         gazhdor_free(text);
         gazhdor_free(front);
     }
 }
 
-/* The names; tests/c compares those of reasons with what the program prints. */
+/* The names; CMakeLists.txt compares those of reasons with what the program prints. */
 static void named(void)
 {
     static const char *const statuses[] = { "good", "refused", "truncated", "out of memory", "text refused", "no file has such rows",
@@ -274,29 +219,29 @@ static void named_of_blocks(void)
  * ever. No block is left. */
 static void want(void)
 {
-    long before = blocks;
-    for (refused = 1;; refused++) {
-        growths = 0;
+    long before = memory.blocks;
+    for (memory.refused = 1;; memory.refused++) {
+        memory.growths = 0;
         gazhdor_answer a = gazhdor_check(ride, length);
-        WANT(blocks == before);
-        if (growths < refused)
+        WANT(memory.blocks == before);
+        if (memory.growths < memory.refused)
             break;
         WANT(is(a, GAZHDOR_NO_MEMORY, 0, 0, 0, 0, 0) || is(a, GAZHDOR_GOOD, 0, 0, 0, 0, 1));
     }
     for (int i = 0; i < CALLS; i++)
-        for (refused = 1;; refused++) {
-            growths = 0;
+        for (memory.refused = 1;; memory.refused++) {
+            memory.growths = 0;
             gazhdor_text text = GAZHDOR_NO_TEXT;
             gazhdor_answer a = calls[i](input(i).bytes, input(i).length, &text);
-            long made = growths;
-            WANT(made < refused || is(a, GAZHDOR_NO_MEMORY, 0, 0, 0, 0, 0) || (a.status == GAZHDOR_GOOD && same(text, texts[i])));
+            long made = memory.growths;
+            WANT(made < memory.refused || is(a, GAZHDOR_NO_MEMORY, 0, 0, 0, 0, 0) || (a.status == GAZHDOR_GOOD && same_text(text, texts[i])));
             WANT(i >= FROM_CSV && a.status != GAZHDOR_GOOD ? text.length == 0 : begins(text, texts[i]));
             gazhdor_free(text);
-            WANT(blocks == before);
-            if (made < refused)
+            WANT(memory.blocks == before);
+            if (made < memory.refused)
                 break;
         }
-    refused = 0;
+    memory.refused = 0;
 }
 
 static void *in_thread(void *given)
@@ -305,7 +250,7 @@ static void *in_thread(void *given)
         gazhdor_text text = GAZHDOR_NO_TEXT;
         WANT(is(gazhdor_check(ride, length), GAZHDOR_GOOD, 0, 0, 0, 0, 1));
         WANT(is(calls[i % READERS](ride, length, &text), GAZHDOR_GOOD, 0, 0, 0, 0, 0));
-        WANT(same(text, texts[i % READERS]));
+        WANT(same_text(text, texts[i % READERS]));
         gazhdor_free(text);
     }
     return NULL;

@@ -1,16 +1,6 @@
 /* Tests of what gazhdor_value says of floating point numbers: of records with a float32 as speed and a float64 as altitude, in both byte
  * orders, and with whole numbers, which alone the profile scales. */
-#include "gazhdor.h"
-
-#include <stdio.h>
-
-#define WANT(what)                                                                  \
-    do {                                                                            \
-        if (!(what)) {                                                              \
-            fprintf(stderr, "floats.c:%d: not so: %s\n", __LINE__, #what);          \
-            exit(1);                                                                \
-        }                                                                           \
-    } while (0)
+#include "want.h"
 
 /* 5.0 is 40A00000 as a float32, 454.25 is 407C640000000000 as a float64; 5000 thousandths, and (454.2 + 500) * 5. All bits are no value. */
 static const uint8_t records[] = {
@@ -23,25 +13,12 @@ static const uint8_t records[] = {
     2, 0x88, 0x13, 0xA3, 0x12,
 };
 
-static size_t with_sum(uint8_t *bytes, size_t length)
-{
-    unsigned sum = 0;
-    for (size_t i = 0; i < length; i++) {
-        sum ^= bytes[i];
-        for (int bit = 0; bit < 8; bit++)
-            sum = sum >> 1 ^ (sum & 1 ? 0xA001 : 0);
-    }
-    bytes[length] = (uint8_t)sum;
-    bytes[length + 1] = (uint8_t)(sum >> 8);
-    return length + 2;
-}
-
-static size_t file_of(uint8_t *bytes)
+static size_t make_file(uint8_t *bytes)
 {
     const uint8_t head[] = { 14, 0x20, 0, 0, sizeof records, 0, 0, 0, '.', 'F', 'I', 'T' };
     memcpy(bytes, head, sizeof head);
-    memcpy(bytes + with_sum(bytes, sizeof head), records, sizeof records);
-    return with_sum(bytes, 14 + sizeof records);
+    memcpy(bytes + with_checksum(bytes, sizeof head), records, sizeof records);
+    return with_checksum(bytes, 14 + sizeof records);
 }
 
 /* What a message says of its speed and its altitude, and whether these are scaled. */
@@ -59,7 +36,7 @@ int main(void)
 {
     uint8_t bytes[256];
     gazhdor_text blocks = GAZHDOR_NO_TEXT;
-    WANT(gazhdor_messages(bytes, file_of(bytes), &blocks).status == GAZHDOR_GOOD);
+    WANT(gazhdor_messages(bytes, make_file(bytes), &blocks).status == GAZHDOR_GOOD);
     gazhdor_reader at = gazhdor_read(blocks);
     int count = 0;
     while (gazhdor_next(&at)) {

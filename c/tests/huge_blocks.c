@@ -3,22 +3,11 @@
  * which it may have, and one more. What has to come is worked out from the protocol. The blocks themselves take little memory: pages that are
  * only read are zeros, and those of a small file in memory stand at many places. With SAY in the environment it prints how much it had at most. */
 #define _GNU_SOURCE
-#include "gazhdor.h"
+#include "want.h"
 
-#include <stdio.h>
-#include <stdlib.h>
-#include <string.h>
 #include <sys/mman.h>
 #include <sys/resource.h>
 #include <unistd.h>
-
-#define WANT(what)                                                                  \
-    do {                                                                            \
-        if (!(what)) {                                                              \
-            fprintf(stderr, "huge_blocks.c:%d: not so: %s\n", __LINE__, #what);     \
-            exit(1);                                                                \
-        }                                                                           \
-    } while (0)
 
 /* ---- pages, and blocks in them */
 

@@ -1,5 +1,5 @@
-/* Whether an answer of gazhdor_from_messages is right, worked out from the blocks by docs/BLOCKS.md. tests/mutants.c includes it after WANT, same
- * and ask, which makes the call. */
+/* Whether an answer of gazhdor_from_messages is right, worked out from the blocks by docs/BLOCKS.md. mutants.c includes it after want.h and ask, which
+ * makes the call. */
 
 /* ---- what the blocks say */
 
@@ -46,13 +46,7 @@ static int is_zero_sum(const uint8_t *block, uint64_t data)
 {
     uint8_t bytes[12] = { block[5], block[6], block[24], block[25], (uint8_t)data, (uint8_t)(data >> 8), (uint8_t)(data >> 16),
         (uint8_t)(data >> 24), '.', 'F', 'I', 'T' };
-    uint32_t sum = 0;
-    for (size_t i = 0; i < sizeof bytes; i++) {
-        sum ^= bytes[i];
-        for (int bit = 0; bit < 8; bit++)
-            sum = sum >> 1 ^ (sum & 1 ? 0xA001 : 0);
-    }
-    return sum == 0;
+    return checksum(bytes, sizeof bytes) == 0;
 }
 
 /* Whether blocks that can all stand where they are say a file that can't be written. None has too much data: a block of 24 bytes or more says
@@ -123,7 +117,7 @@ static int is_reason(uint32_t reason, const uint8_t *block, const before *b)
 
 /* The blocks before the refused one can stand where they are: alone they end too early, or are those of whole files; and those up to the last
  * end of a file are. */
-static void refused(gazhdor_text blocks, gazhdor_answer a)
+static void see_refused(gazhdor_text blocks, gazhdor_answer a)
 {
     WANT(a.place <= blocks.length);
     before b = before_place(blocks, a.place);
@@ -189,7 +183,7 @@ static int say_the_same(gazhdor_text blocks, gazhdor_text others)
 }
 
 /* The blocks of the file say the same as these, and are those of the same bytes. */
-static void good(gazhdor_text blocks, gazhdor_text file)
+static void see_good(gazhdor_text blocks, gazhdor_text file)
 {
     gazhdor_text others = GAZHDOR_NO_TEXT, again = GAZHDOR_NO_TEXT;
     uint64_t files = 0;
@@ -198,7 +192,7 @@ static void good(gazhdor_text blocks, gazhdor_text file)
     gazhdor_answer checked = gazhdor_check(file.bytes, file.length);
     WANT(checked.status == GAZHDOR_GOOD && checked.files == files && !are_unwritable(blocks));
     WANT(gazhdor_messages(file.bytes, file.length, &others).status == GAZHDOR_GOOD && say_the_same(blocks, others));
-    WANT(gazhdor_from_messages(others.bytes, others.length, &again).status == GAZHDOR_GOOD && same(again, file));
+    WANT(gazhdor_from_messages(others.bytes, others.length, &again).status == GAZHDOR_GOOD && same_text(again, file));
     gazhdor_free(others);
     gazhdor_free(again);
 }

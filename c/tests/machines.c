@@ -1,12 +1,11 @@
 /* Tests of c/heap_libc.c and c/os_libc.c, which stand in for the Rattle kit's on other processors than x86-64: machines ab '' c. They are built
  * with it, by the compiler of the machine here under its checks, and by that for aarch64. */
+#include "want.h"
+
 #include <errno.h>
 #include <stdbool.h>
 #include <stddef.h>
 #include <stdint.h>
-#include <stdio.h>
-#include <stdlib.h>
-#include <string.h>
 
 typedef struct tried {
     bool ok;
@@ -20,14 +19,6 @@ size_t rattle_arg_count(void);
 ptrdiff_t rattle_arg(size_t i, unsigned char *buffer, size_t room);
 int rattle_errno(void);
 void rattle_set_errno(int error);
-
-#define WANT(what)                                                                  \
-    do {                                                                            \
-        if (!(what)) {                                                              \
-            fprintf(stderr, "machines.c:%d: not so: %s\n", __LINE__, #what);        \
-            exit(1);                                                                \
-        }                                                                           \
-    } while (0)
 
 /* Word i with each room up to one more than it needs: it comes whole, or the buffer is full of its first bytes. */
 static void word(size_t i, const char *text)

@@ -4,54 +4,19 @@
  * fault, though the library isn't built with a compiler's checks. What must be so of an answer is worked out from the blocks, by that page.
  * Link with --wrap=malloc, realloc and free, which count what is kept. */
 #define _GNU_SOURCE
-#include "gazhdor.h"
+#define COUNTED
+#include "want.h"
 
 #include <signal.h>
-#include <stdio.h>
-#include <stdlib.h>
-#include <string.h>
 #include <sys/mman.h>
 #include <unistd.h>
 
 static long mutant;
 
-#define WANT(what)                                                                                \
-    do {                                                                                          \
-        if (!(what)) {                                                                            \
-            fprintf(stderr, "mutants.c:%d: not so of mutant %ld: %s\n", __LINE__, mutant, #what); \
-            exit(1);                                                                              \
-        }                                                                                         \
-    } while (0)
+#undef WANT
+#define WANT(what) WANT_OF(what, " of mutant %ld\n", mutant)
 
 enum { ROOM = 1 << 16, FRONT = 6000, MOST = 40, SEEDS = 24, END = 24, REASONS = GAZHDOR_BLOCK_ITEMS + 1 };
-
-/* ---- memory: how many pieces there are */
-
-static long kept;
-
-void *__real_malloc(size_t size);
-void *__real_realloc(void *old, size_t size);
-void __real_free(void *old);
-
-void *__wrap_malloc(size_t size)
-{
-    void *made = __real_malloc(size);
-    kept += made != NULL;
-    return made;
-}
-
-void *__wrap_realloc(void *old, size_t size)
-{
-    void *made = __real_realloc(old, size);
-    kept += old == NULL && made != NULL;
-    return made;
-}
-
-void __wrap_free(void *old)
-{
-    kept -= old != NULL;
-    __real_free(old);
-}
 
 /* ---- the call, on blocks beside a page that can't be read */
 
@@ -74,11 +39,6 @@ static void make_room(void)
     WANT(signal(SIGSEGV, outside) != SIG_ERR && signal(SIGBUS, outside) != SIG_ERR);
 }
 
-static int same(gazhdor_text a, gazhdor_text b)
-{
-    return a.length == b.length && memcmp(a.bytes, b.bytes, a.length) == 0;
-}
-
 /* The answer, which is the same at both ends of the room; and the blocks stay as they are. */
 static gazhdor_answer ask(gazhdor_text blocks, gazhdor_text *file)
 {
@@ -91,7 +51,7 @@ static gazhdor_answer ask(gazhdor_text blocks, gazhdor_text *file)
     gazhdor_answer b = gazhdor_from_messages(room, blocks.length, &again);
     WANT(memcmp(room, blocks.bytes, blocks.length) == 0);
     WANT(a.status == b.status && a.reason == b.reason && a.place == b.place && a.row == b.row && a.column == 0 && a.files == 0);
-    WANT(same(*file, again) && (a.status == GAZHDOR_GOOD) == (file->length != 0));
+    WANT(same_text(*file, again) && (a.status == GAZHDOR_GOOD) == (file->length != 0));
     WANT(a.status == GAZHDOR_BLOCK || (a.reason == 0 && a.place == 0 && a.row == 0));
     gazhdor_free(again);
     return a;
@@ -105,16 +65,16 @@ static long goods, unwritables, reasons[REASONS];
 
 static void judge(gazhdor_text blocks)
 {
-    long had = kept;
+    long had = memory.blocks;
     gazhdor_text file = GAZHDOR_NO_TEXT;
     gazhdor_answer a = ask(blocks, &file);
     WANT(a.status == GAZHDOR_GOOD || a.status == GAZHDOR_BLOCK || a.status == GAZHDOR_UNWRITABLE);
     if (a.status == GAZHDOR_GOOD) {
-        good(blocks, file);
+        see_good(blocks, file);
         goods++;
     } else if (a.status == GAZHDOR_BLOCK) {
         WANT(a.reason > 0 && a.reason < REASONS);
-        refused(blocks, a);
+        see_refused(blocks, a);
         reasons[a.reason]++;
     } else {
         before b = before_place(blocks, blocks.length);
@@ -122,7 +82,7 @@ static void judge(gazhdor_text blocks)
         unwritables++;
     }
     gazhdor_free(file);
-    WANT(kept == had);
+    WANT(memory.blocks == had);
 }
 
 /* ---- changes */
@@ -272,15 +232,11 @@ static void add_seed(gazhdor_text blocks)
 
 static void add_file(const char *path)
 {
-    static uint8_t bytes[1 << 20];
-    FILE *file = fopen(path, "rb");
-    WANT(file != NULL);
-    size_t length = fread(bytes, 1, sizeof bytes, file);
-    fclose(file);
-    gazhdor_text blocks = GAZHDOR_NO_TEXT;
-    WANT(gazhdor_messages(bytes, length, &blocks).status == GAZHDOR_GOOD);
+    gazhdor_text file = file_of(path, 1 << 20), blocks = GAZHDOR_NO_TEXT;
+    WANT(gazhdor_messages(file.bytes, file.length, &blocks).status == GAZHDOR_GOOD);
     add_seed(blocks);
     gazhdor_free(blocks);
+    free_file(file);
 }
 
 int main(int argc, char **argv)

@@ -1,55 +1,10 @@
 /* Tests of the streams of gazhdor.h, by the calls that take all bytes at once: pieces STEP FILE.. Each FILE is fed in two pieces, at each
  * STEP-th place, and byte by byte; so are its fronts and copies with a changed byte. Blocks of memory are counted, and each growth is
  * refused in turn: link with --wrap=malloc, realloc and free. */
-#include "gazhdor.h"
+#define COUNTED
+#include "want.h"
 
 #include <pthread.h>
-#include <stdio.h>
-#include <stdlib.h>
-#include <string.h>
-
-/* ---- memory: how many blocks there are, and which growth is to be refused; 0 for none */
-
-static __thread long blocks, growths, refused;
-
-void *__real_malloc(size_t size);
-void *__real_realloc(void *block, size_t size);
-void __real_free(void *block);
-
-static int refuses(void)
-{
-    return ++growths == refused;
-}
-
-void *__wrap_malloc(size_t size)
-{
-    void *block = refuses() ? NULL : __real_malloc(size);
-    blocks += block != NULL;
-    return block;
-}
-
-void *__wrap_realloc(void *old, size_t size)
-{
-    void *block = refuses() ? NULL : __real_realloc(old, size);
-    blocks += old == NULL && block != NULL;
-    return block;
-}
-
-void __wrap_free(void *block)
-{
-    blocks -= block != NULL;
-    __real_free(block);
-}
-
-/* ---- what is wanted */
-
-#define WANT(what)                                                                  \
-    do {                                                                            \
-        if (!(what)) {                                                              \
-            fprintf(stderr, "pieces.c:%d: not so: %s\n", __LINE__, #what);          \
-            exit(1);                                                                \
-        }                                                                           \
-    } while (0)
 
 enum { KINDS = 5, MOST = 1 << 20 };
 typedef gazhdor_answer call(const uint8_t *bytes, size_t length, gazhdor_text *text);
@@ -62,15 +17,9 @@ static gazhdor_answer check(const uint8_t *bytes, size_t length, gazhdor_text *t
 
 static call *const calls[KINDS] = { check, gazhdor_show, gazhdor_table, gazhdor_to_csv, gazhdor_messages };
 
-static int same(gazhdor_answer a, gazhdor_answer b)
+static int only(gazhdor_answer a, uint32_t status)
 {
-    return a.status == b.status && a.reason == b.reason && a.place == b.place && a.row == b.row && a.column == b.column && a.files == b.files;
-}
-
-static int is(gazhdor_answer a, uint32_t status)
-{
-    gazhdor_answer wanted = { status, 0, 0, 0, 0, 0 };
-    return same(a, wanted);
+    return is(a, status, 0, 0, 0, 0, 0);
 }
 
 /* What one call says of all bytes, but with the count of files that the end of a stream gives too; and its text. */
@@ -131,21 +80,21 @@ static void pieces(uint32_t kind, const uint8_t *bytes, size_t length, const siz
     gazhdor_text text = GAZHDOR_NO_TEXT;
     gazhdor_answer wanted = whole(kind, bytes, length, &text);
     feeding f = opened(kind, text);
-    WANT(is(f.answer, GAZHDOR_GOOD) && f.stream.at != NULL);
+    WANT(only(f.answer, GAZHDOR_GOOD) && f.stream.at != NULL);
     size_t at = 0;
     for (size_t i = 0; i <= count; i++) {
         size_t end = i < count ? ends[i] : length;
         feed(&f, bytes + at, end - at);
         at = end;
         if (wanted.status == GAZHDOR_REFUSED && wanted.place < end)
-            WANT(same(f.answer, wanted) && f.made == text.length);
+            WANT(same_answer(f.answer, wanted) && f.made == text.length);
         else
             WANT(f.answer.status == GAZHDOR_GOOD && f.answer.reason == 0 && f.answer.place == 0);
     }
     if (wanted.status == GAZHDOR_GOOD)
         WANT(f.answer.files == wanted.files && f.made == text.length);
     finish(&f);
-    WANT(same(f.answer, wanted) && f.made == text.length);
+    WANT(same_answer(f.answer, wanted) && f.made == text.length);
     gazhdor_close(&f.stream);
     WANT(f.stream.at == NULL);
     gazhdor_free(text);
@@ -189,7 +138,7 @@ static void asked_in_between(uint32_t kind, const uint8_t *bytes, size_t length)
         gazhdor_text front = GAZHDOR_NO_TEXT;
         gazhdor_answer wanted = whole(kind, bytes, at, &front);
         finish(&f);
-        WANT(same(f.answer, wanted) && f.made == front.length);
+        WANT(same_answer(f.answer, wanted) && f.made == front.length);
         gazhdor_free(front);
         if (at < length)
             feed(&f, bytes + at, 1);
@@ -221,28 +170,28 @@ static void closed(void)
     gazhdor_text none = GAZHDOR_NO_TEXT;
     for (uint32_t kind = 0; kind < KINDS + 3; kind++) {
         feeding f = opened(kind, none);
-        WANT(is(f.answer, kind < KINDS ? GAZHDOR_GOOD : GAZHDOR_NO_KIND) && (f.stream.at != NULL) == (kind < KINDS));
+        WANT(only(f.answer, kind < KINDS ? GAZHDOR_GOOD : GAZHDOR_NO_KIND) && (f.stream.at != NULL) == (kind < KINDS));
         gazhdor_close(&f.stream);
         for (int twice = 0; twice < 2; twice++) {
             WANT(f.stream.at == NULL);
             feed(&f, (const uint8_t *)"\x0E", 1);
-            WANT(is(f.answer, GAZHDOR_CLOSED));
+            WANT(only(f.answer, GAZHDOR_CLOSED));
             finish(&f);
-            WANT(is(f.answer, GAZHDOR_CLOSED));
+            WANT(only(f.answer, GAZHDOR_CLOSED));
             gazhdor_close(&f.stream);
         }
         /* What is open is closed first, also where it isn't opened again. */
-        WANT(is(gazhdor_open(&f.stream, GAZHDOR_STREAM_CHECK), GAZHDOR_GOOD));
+        WANT(only(gazhdor_open(&f.stream, GAZHDOR_STREAM_CHECK), GAZHDOR_GOOD));
         feed(&f, (const uint8_t *)"\x0D", 1);
         WANT(f.answer.status == GAZHDOR_REFUSED && f.answer.reason == GAZHDOR_HEADER_SIZE && f.answer.place == 0);
         gazhdor_open(&f.stream, kind);
         WANT((f.stream.at != NULL) == (kind < KINDS));
         gazhdor_text text = GAZHDOR_NO_TEXT;
-        WANT(is(gazhdor_feed(&f.stream, (const uint8_t *)"\x0E", 1, &text), kind < KINDS ? GAZHDOR_GOOD : GAZHDOR_CLOSED));
+        WANT(only(gazhdor_feed(&f.stream, (const uint8_t *)"\x0E", 1, &text), kind < KINDS ? GAZHDOR_GOOD : GAZHDOR_CLOSED));
         gazhdor_free(text);
         gazhdor_close(&f.stream);
     }
-    WANT(is(gazhdor_open(&(gazhdor_stream)GAZHDOR_CLOSED_STREAM, 0xFFFFFFFF), GAZHDOR_NO_KIND));
+    WANT(only(gazhdor_open(&(gazhdor_stream)GAZHDOR_CLOSED_STREAM, 0xFFFFFFFF), GAZHDOR_NO_KIND));
 }
 
 /* ---- memory */
@@ -254,24 +203,24 @@ static void refusals(uint32_t kind, const uint8_t *bytes, size_t length)
     gazhdor_answer wanted = whole(kind, bytes, length, &text);
     size_t size = length / 10 + 1;
     for (long turn = 1;; turn++) {
-        long before = blocks;
-        growths = 0, refused = turn;
+        long before = memory.blocks;
+        memory.growths = 0, memory.refused = turn;
         feeding f = opened(kind, text);
         for (size_t at = 0; at < length; at += size) {
             int over = f.answer.status != GAZHDOR_GOOD;
             size_t made = f.made;
             feed(&f, bytes + at, length - at < size ? length - at : size);
-            WANT(f.answer.status == GAZHDOR_GOOD || is(f.answer, f.stream.at == NULL ? GAZHDOR_CLOSED : GAZHDOR_NO_MEMORY));
+            WANT(f.answer.status == GAZHDOR_GOOD || only(f.answer, f.stream.at == NULL ? GAZHDOR_CLOSED : GAZHDOR_NO_MEMORY));
             WANT(!over || (f.answer.status != GAZHDOR_GOOD && f.made == made));
         }
         int over = f.answer.status != GAZHDOR_GOOD;
         finish(&f);
-        WANT(over || is(f.answer, GAZHDOR_NO_MEMORY) || (same(f.answer, wanted) && f.made == text.length));
+        WANT(over || only(f.answer, GAZHDOR_NO_MEMORY) || (same_answer(f.answer, wanted) && f.made == text.length));
         WANT(!over || f.answer.status != GAZHDOR_GOOD);
         gazhdor_close(&f.stream);
-        refused = 0;
-        WANT(blocks == before);
-        if (growths < turn)
+        memory.refused = 0;
+        WANT(memory.blocks == before);
+        if (memory.growths < turn)
             break;
     }
     gazhdor_free(text);
@@ -296,7 +245,7 @@ static void kept(const uint8_t *bytes, size_t length, size_t size)
 {
     gazhdor_text all = GAZHDOR_NO_TEXT, none = GAZHDOR_NO_TEXT;
     gazhdor_messages(bytes, length, &all);
-    long before = blocks;
+    long before = memory.blocks;
     gazhdor_reader wanted = gazhdor_read(all), at = gazhdor_read(none);
     gazhdor_stream stream = GAZHDOR_CLOSED_STREAM;
     gazhdor_open(&stream, GAZHDOR_STREAM_MESSAGES);
@@ -314,7 +263,7 @@ static void kept(const uint8_t *bytes, size_t length, size_t size)
     WANT(!gazhdor_next(&wanted));
     gazhdor_close(&stream);
     gazhdor_forget(&at);
-    WANT(blocks == before && !gazhdor_next(&at));
+    WANT(memory.blocks == before && !gazhdor_next(&at));
     gazhdor_free(all);
 }
 
@@ -352,16 +301,16 @@ static void forgotten(const uint8_t *bytes, size_t length)
 {
     gazhdor_text all = GAZHDOR_NO_TEXT;
     gazhdor_messages(bytes, length, &all);
-    long before = blocks;
+    long before = memory.blocks;
     gazhdor_reader at = gazhdor_read(all);
     while (gazhdor_next(&at))
         ;
-    growths = 0, refused = 1;
+    memory.growths = 0, memory.refused = 1;
     WANT(!gazhdor_keep(&at));
-    refused = 0;
+    memory.refused = 0;
     WANT(gazhdor_keep(&at));
     gazhdor_forget(&at);
-    WANT(blocks == before);
+    WANT(memory.blocks == before);
     gazhdor_free(all);
 }
 
@@ -403,8 +352,8 @@ static void *opens(void *passed)
 {
     passing *p = passed;
     p->f = opened(p->kind, p->f.wanted);
-    WANT(is(p->f.answer, GAZHDOR_GOOD));
-    p->blocks += blocks;
+    WANT(only(p->f.answer, GAZHDOR_GOOD));
+    p->blocks += memory.blocks;
     return NULL;
 }
 
@@ -425,7 +374,7 @@ static void *feeds(void *passed)
         p->pieces++;
         pthread_cond_broadcast(&p->next);
     }
-    p->blocks += blocks;
+    p->blocks += memory.blocks;
     pthread_mutex_unlock(&p->turn);
     return NULL;
 }
@@ -436,7 +385,7 @@ static void *finishes(void *passed)
     passing *p = passed;
     feed(&p->f, given + p->at, given_length - p->at);
     finish(&p->f);
-    p->blocks += blocks;
+    p->blocks += memory.blocks;
     return NULL;
 }
 
@@ -445,7 +394,7 @@ static void *closes(void *passed)
     passing *p = passed;
     gazhdor_close(&p->f.stream);
     WANT(p->f.stream.at == NULL);
-    p->blocks += blocks;
+    p->blocks += memory.blocks;
     return NULL;
 }
 
@@ -470,7 +419,7 @@ static void passed_on(uint32_t kind, int count)
     step(opens, &p, 1);
     step(feeds, &p, count);
     step(finishes, &p, 1);
-    WANT(same(p.f.answer, wanted) && p.f.made == text.length);
+    WANT(same_answer(p.f.answer, wanted) && p.f.made == text.length);
     step(closes, &p, 1);
     WANT(p.blocks == 0);
     gazhdor_free(text);
@@ -501,6 +450,6 @@ int main(int argc, char **argv)
     }
     threads();
     free(given);
-    WANT(blocks == 0);
+    WANT(memory.blocks == 0);
     return 0;
 }

@@ -1,18 +1,8 @@
 /* Tests of gazhdor_write.h and gazhdor_set.h on blocks that were read, and by random calls: rewrites FILE ROUNDS. A copy of all blocks, and one
  * of which each item was set to what it is, say the bytes of FILE; without a field they say the others. Random calls with random numbers, in
  * memory of just its length, show a compiler's checks, or valgrind, a read or a write outside it; where they had no fault, they made a file. */
-#include "gazhdor.h"
+#include "want.h"
 
-#include <stdio.h>
-#include <stdlib.h>
-
-#define WANT(what)                                                                  \
-    do {                                                                            \
-        if (!(what)) {                                                              \
-            fprintf(stderr, "rewrites.c:%d: not so: %s\n", __LINE__, #what);        \
-            exit(1);                                                                \
-        }                                                                           \
-    } while (0)
 #define PUT(what) WANT((what) == GAZHDOR_PUT)
 
 /* ---- copies */
@@ -372,14 +362,9 @@ static void any_file(gazhdor_text blocks)
 int main(int argc, char **argv)
 {
     WANT(argc == 3);
-    FILE *file = fopen(argv[1], "rb");
-    static uint8_t bytes[1 << 20];
-    WANT(file != NULL);
-    size_t length = fread(bytes, 1, sizeof bytes, file);
-    fclose(file);
-    gazhdor_text blocks = GAZHDOR_NO_TEXT;
-    WANT(gazhdor_messages(bytes, length, &blocks).status == GAZHDOR_GOOD);
-    copies(blocks, bytes, length);
+    gazhdor_text file = file_of(argv[1], 1 << 20), blocks = GAZHDOR_NO_TEXT;
+    WANT(gazhdor_messages(file.bytes, file.length, &blocks).status == GAZHDOR_GOOD);
+    copies(blocks, file.bytes, file.length);
     gazhdor_writer without = without_a_field(blocks);
     say_the_same(&without, blocks, 1);
     free(without.bytes);
@@ -391,5 +376,6 @@ int main(int argc, char **argv)
         any_file(blocks);
     WANT(made >= rounds / 50);
     gazhdor_free(blocks);
+    free_file(file);
     return 0;
 }

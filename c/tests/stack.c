@@ -3,20 +3,10 @@
  * enough: one that takes more runs into memory that can't be written. The stack is painted before, so that what stays as it was is what no
  * call has taken. With SAY in the environment it prints how much that was, besides what a thread takes that does nothing. */
 #define _GNU_SOURCE
-#include "gazhdor.h"
+#include "want.h"
 
 #include <pthread.h>
-#include <stdio.h>
-#include <stdlib.h>
 #include <sys/mman.h>
-
-#define WANT(what)                                                                  \
-    do {                                                                            \
-        if (!(what)) {                                                              \
-            fprintf(stderr, "stack.c:%d: not so: %s\n", __LINE__, #what);           \
-            exit(1);                                                                \
-        }                                                                           \
-    } while (0)
 
 enum { STACK = 65536, SAID = 48 * 1024, GUARD = 65536, MOST = 1 << 22, PAINT = 0xA5, KINDS = 5 };
 
@@ -170,17 +160,6 @@ static size_t put_definitions(uint8_t *bytes, size_t at)
     return at;
 }
 
-static size_t put_sum(uint8_t *bytes, size_t from, size_t to)
-{
-    uint32_t sum = 0;
-    for (size_t at = from; at < to; at++) {
-        sum ^= bytes[at];
-        for (int bit = 0; bit < 8; bit++)
-            sum = sum >> 1 ^ (sum & 1 ? 0xA001 : 0);
-    }
-    return put(bytes, to, 2, (const uint8_t[]){ (uint8_t)sum, (uint8_t)(sum >> 8) });
-}
-
 static void see_the_greatest(void)
 {
     static uint8_t bytes[8192];
@@ -191,23 +170,20 @@ static void see_the_greatest(void)
         at += 511;
     }
     put(bytes, 0, 12, (const uint8_t[]){ 12, 32, 0, 0, (uint8_t)(at - 12), (uint8_t)((at - 12) >> 8), 0, 0, '.', 'F', 'I', 'T' });
-    at = put_sum(bytes, 0, at);
+    at = with_checksum(bytes, at);
     WANT(gazhdor_check(bytes, at).status == GAZHDOR_GOOD);
     see_file(bytes, at);
 }
 
 int main(int argc, char **argv)
 {
-    static uint8_t bytes[MOST];
     size_t own = taken(nothing);
     WANT(argc > 1);
     see_the_greatest();
     for (int i = 1; i < argc; i++) {
-        FILE *file = fopen(argv[i], "rb");
-        WANT(file != NULL);
-        size_t length = fread(bytes, 1, MOST, file);
-        fclose(file);
-        see_file(bytes, length);
+        gazhdor_text file = file_of(argv[i], MOST);
+        see_file(file.bytes, file.length);
+        free_file(file);
     }
     if (getenv("SAY") != NULL)
         printf("calls %zu, streams %zu bytes\n", most_of_calls - own, most_of_streams - own);

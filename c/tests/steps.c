@@ -1,18 +1,8 @@
 /* Tests of gazhdor_set_value: steps SCALE OFFSET .. <CASES. That what gazhdor_value gives of an item sets it again, of each item of one and
- * two bytes and many of four and eight, by each scale and offset; and that each of the cases of tests/steps.py is answered as it says. */
-#include "gazhdor.h"
+ * two bytes and many of four and eight, by each scale and offset; and that each of the cases of steps.py is answered as it says. */
+#include "want.h"
 
 #include <inttypes.h>
-#include <stdio.h>
-#include <stdlib.h>
-
-#define WANT(what)                                                                  \
-    do {                                                                            \
-        if (!(what)) {                                                              \
-            fprintf(stderr, "steps.c:%d: not so: %s\n", __LINE__, #what);           \
-            exit(1);                                                                \
-        }                                                                           \
-    } while (0)
 
 /* A message with one item; gives its field. */
 static gazhdor_field message_of(gazhdor_writer *to, uint8_t *room, size_t length, uint32_t type, uint32_t scale, uint32_t offset)

@@ -1,5 +1,5 @@
 #!/usr/bin/env python3
-"""Prints cases for tests/steps.c: base type, scale, offset, the bits of a value, and the item that is nearest to it, halves away from zero, or `-` where there is
+"""Prints cases for steps.c: base type, scale, offset, the bits of a value, and the item that is nearest to it, halves away from zero, or `-` where there is
 none. They are worked out by fractions, and floats of four bytes by Python's struct: each edge of each type, numbers halfway between two items and the doubles
 next to these, and doubles of all sizes."""
 import fractions

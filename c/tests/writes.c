@@ -1,18 +1,8 @@
 /* Tests of what gazhdor_write.h and gazhdor_set.h make for gazhdor_from_messages: files whose bytes stand here, from the protocol; each
- * answer; memory of each size, and memory that is refused at each time. tests/rewrites.c has copies and random calls, and tests/steps.c
+ * answer; memory of each size, and memory that is refused at each time. rewrites.c has copies and random calls, and steps.c
  * the numbers. */
-#include "gazhdor.h"
+#include "want.h"
 
-#include <stdio.h>
-#include <stdlib.h>
-
-#define WANT(what)                                                                  \
-    do {                                                                            \
-        if (!(what)) {                                                              \
-            fprintf(stderr, "writes.c:%d: not so: %s\n", __LINE__, #what);          \
-            exit(1);                                                                \
-        }                                                                           \
-    } while (0)
 #define PUT(what) WANT((what) == GAZHDOR_PUT)
 
 /* ---- files that are known */

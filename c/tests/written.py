@@ -1,5 +1,5 @@
 #!/usr/bin/env python3
-"""Writes the bytes of the ride of c/write.c, worked out by Python's struct from the protocol and the profile alone: tests/written.py FILE"""
+"""Writes the bytes of the ride of c/write.c, worked out by Python's struct from the protocol and the profile alone: written.py FILE"""
 import struct
 import sys
 
