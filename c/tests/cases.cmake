@@ -1,6 +1,6 @@
 # The cases, each of which ctest runs and names. Their command lines run in the folder of the programs and files, in which TREE is the tree,
 # whose `fit` is found, and LIB the folder of the library.
-set(environment "PATH=${tree}:$ENV{PATH}" "TREE=${tree}" "LIB=${lib}" "LD_LIBRARY_PATH=${lib}" "PKG_CONFIG_PATH=${lib}")
+set(environment LC_ALL=C.UTF-8 "PATH=${tree}:$ENV{PATH}" "TREE=${tree}" "LIB=${lib}" "LD_LIBRARY_PATH=${lib}" "PKG_CONFIG_PATH=${lib}")
 
 # A case of the script see, by its name: quiet(NAME LINE), says(NAME TEXT LINE), same(NAME LINE LINE)
 function(quiet name line)
@@ -33,7 +33,10 @@ list(JOIN known " " known)
 # ---- the library
 
 set(calls check close feed finish free from_csv from_messages messages open reason_name show status_name table to_csv version)
+list(APPEND calls amount developer field_at first first_field float forget items keep message_name name_at named next next_field numbered raw
+    string value)
 list(TRANSFORM calls PREPEND gazhdor_)
+list(SORT calls)
 list(JOIN calls "\n" calls)
 set(names [[ | grep -E ' [A-TV-Z] ' | cut -d ' ' -f 3 | sort]])
 says("the names in libgazhdor.so" "${calls}" "nm -D --defined-only \"$LIB/libgazhdor.so\"${names}")
@@ -46,7 +49,7 @@ if(CMAKE_SYSTEM_PROCESSOR STREQUAL x86_64)
     set(oldest GLIBC_2.14)
 endif()
 says("the C library that it needs at least" ${oldest} [[objdump -T "$LIB/libgazhdor.so" | grep -o 'GLIBC_[0-9.]*' | sort -uV | tail -n 1]])
-says("what libgazhdor.a leaves to be linked" "free malloc memcpy memmove memset realloc" [[nm -u "$LIB/libgazhdor.a" | sed -n 's/^ *U //p' | sort | xargs]])
+says("what libgazhdor.a leaves to be linked" "free malloc memchr memcpy memmove memset realloc strcmp strlen" [[nm -u "$LIB/libgazhdor.a" | sed -n 's/^ *U //p' | sort | xargs]])
 says("words that c/build does not know" 2 [["$TREE/c/build" --help >/dev/null 2>&1; echo $?]])
 
 # ---- the header
@@ -73,8 +76,8 @@ foreach(name demo messages pieces write edit)
     endif()
 endforeach()
 same("the numbers of the messages" [[tail -n +2 "$TREE/profile/fields.tsv" | cut -f 1,2 | awk '{ print toupper($2), $1 }' | sort -u]]
-    [[sed -n 's/^ *GAZHDOR_MESSAGE_\([A-Z_]*\) = \([0-9]*\),\?$/\1 \2/p' "$TREE/c/gazhdor_blocks.h" | sort]])
-says("how many messages have a number" 12 [[grep -c '^ *GAZHDOR_MESSAGE_[A-Z_]* = [0-9]*,\?$' "$TREE/c/gazhdor_blocks.h"]])
+    [[sed -n 's/^ *GAZHDOR_MESSAGE_\([A-Z_]*\) = \([0-9]*\),\?$/\1 \2/p' "$TREE/c/gazhdor_numbers.h" | sort]])
+says("how many messages have a number" 12 [[grep -c '^ *GAZHDOR_MESSAGE_[A-Z_]* = [0-9]*,\?$' "$TREE/c/gazhdor_numbers.h"]])
 
 # ---- the demo, with the library in it and beside it
 
@@ -128,6 +131,7 @@ endforeach()
 foreach(kind ride mixed strings)
     quiet("blocks, and changed ones of ${kind}" "${under}./blocks ${kind}.fit ${rounds}")
 endforeach()
+quiet("blocks by the functions of the library" "./blocks_of_library ride.fit 200")
 says("messages with a developer field" "1000000000  101 bpm  1767 watts\nsession  6083.55 m" [[./messages developer.fit 'Form power' | sed -n '1p;$p']])
 says("messages with a float" "1000000000  101 bpm  602.688 N/m\nsession  6083.55 m" [[./messages developer.fit Strain | sed -n '1p;$p']])
 quiet("floats that the profile does not scale" ./floats)
