@@ -4,12 +4,13 @@ where its profile has a scale. And what the names of gazhdor.EXTRA say is compar
 import math
 import os
 import re
+import shutil
 import struct
 import subprocess
 import sys
 import unittest
 
-from support import RIDE, folder, in_tree, recording, text_at
+from support import RIDE, folder, in_tree, left_out, recording, text_at
 
 import gazhdor
 
@@ -20,6 +21,11 @@ FLOAT32, FLOAT64 = 8, 9
 # developer_data_id and field_description, which Garmin::FIT reads for itself: it gives the names of developer fields
 KEPT = (207, 206)
 KINDS = ("plain", "developer", "compressed", "turns", "definitions", "strings")
+
+
+def setUpModule():
+    if not (shutil.which("perl") and os.path.isfile(os.path.join(FOLDER, "Garmin", "FIT.pm"))):
+        left_out("there is no Garmin::FIT of pytrainer, so what it reads is not compared")
 
 
 def asked(script, *words):
