@@ -166,7 +166,7 @@ enum gazhdor_stream_kind {
 };
 
 /* What is kept between the pieces: the definitions of the current file and the developer fields that it describes, what has come of a
- * record, the checksum, and at most 4 KB of memory for the next text; so it needs no more memory for more messages. It begins as
+ * record, the checksum, and room in which the next text is made (docs/C.md); so it needs no more memory for more messages. It begins as
  * GAZHDOR_CLOSED_STREAM. Only the four calls change it, one at a time. Each of them may be made in another thread: then a lock, a join or
  * the like comes between. It isn't copied, and in the end gazhdor_close gives its memory back. Other threads may use other streams
  * meanwhile. */

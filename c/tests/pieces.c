@@ -1,6 +1,7 @@
 /* Tests of the streams of gazhdor.h, by the calls that take all bytes at once: pieces STEP FILE.. Each FILE is fed in two pieces, at each
  * STEP-th place, and byte by byte; so are its fronts and copies with a changed byte. Blocks of memory are counted, and each growth is
- * refused in turn: link with --wrap=malloc, realloc and free. */
+ * refused in turn: link with --wrap=malloc, realloc and free. With 0 for STEP only that is done, of the whole file, which may be longer: fed
+ * at once, whose text is put several times, and in ten pieces. */
 #define COUNTED
 #include "want.h"
 
@@ -196,12 +197,12 @@ static void closed(void)
 
 /* ---- memory */
 
-/* Each growth refused in turn: no memory, from then on, with a front of the text; or else what it always is. No block is left. */
-static void refusals(uint32_t kind, const uint8_t *bytes, size_t length)
+/* Each growth refused in turn, fed in pieces of that size: no memory, from then on, with a front of the text; or else what it always is. No
+ * block is left. */
+static void refusals(uint32_t kind, const uint8_t *bytes, size_t length, size_t size)
 {
     gazhdor_text text = GAZHDOR_NO_TEXT;
     gazhdor_answer wanted = whole(kind, bytes, length, &text);
-    size_t size = length / 10 + 1;
     for (long turn = 1;; turn++) {
         long before = memory.blocks;
         memory.growths = 0, memory.refused = turn;
@@ -428,6 +429,7 @@ static void passed_on(uint32_t kind, int count)
 int main(int argc, char **argv)
 {
     WANT(argc > 2);
+    size_t every = (size_t)atol(argv[1]);
     given = malloc(MOST);
     closed();
     for (int i = 2; i < argc; i++) {
@@ -435,11 +437,19 @@ int main(int argc, char **argv)
         WANT(file != NULL);
         given_length = fread(given, 1, MOST, file);
         fclose(file);
-        in_pieces(given, given_length, (size_t)atol(argv[1]));
+        if (every == 0) {
+            WANT(given_length > 20000 && given_length < 65536);
+            for (uint32_t kind = 0; kind < KINDS; kind++) {
+                refusals(kind, given, given_length, given_length);
+                refusals(kind, given, given_length, given_length / 10 + 1);
+            }
+            continue;
+        }
+        in_pieces(given, given_length, every);
         counted(given, given_length);
         for (uint32_t kind = 0; kind < KINDS; kind++) {
             asked_in_between(kind, given, given_length < 500 ? given_length : 500);
-            refusals(kind, given, given_length < 3000 ? given_length : 3000);
+            refusals(kind, given, given_length < 3000 ? given_length : 3000, given_length < 3000 ? given_length / 10 + 1 : 301);
             passed_on(kind, 1);
             passed_on(kind, 4);
         }
@@ -448,7 +458,8 @@ int main(int argc, char **argv)
         if (strstr(argv[i], "ride") != NULL)
             forgotten(given, given_length);
     }
-    threads();
+    if (every != 0)
+        threads();
     free(given);
     WANT(memory.blocks == 0);
     return 0;

@@ -3,9 +3,9 @@ ghost use Rattle.std.specs.Prelude.{◌≡◌, [], ◌∷◌};
 
 use crate::asserts::{equal, holds_at};
 use fit_decode::{CutSource, Event, Fault, Source};
-use fit_encode::{CutSink, Sink};
+use fit_encode::{CutSink, Sink, WriteSink};
 use fit_frame::Reason;
-use fit_report::{Heard, Report, ReportFault, report};
+use fit_report::{Document, Heard, Report, ReportFault, report, report_document};
 use std::alloc::{AllocError, Global};
 use std::process::Abort;
 
@@ -32,6 +32,17 @@ impl Report for Dots {
         }
         self.heard.add(event);
         Ok(())
+    }
+}
+
+/// What ends a document of dots: as many bytes as a report takes at once.
+const CLOSING: &[u8] = &[b'!'; 65_536];
+
+impl Document for Dots {
+    ghost ending = { λ heard. CLOSING.now };
+
+    fn end(&mut self, text: &mut Vec<u8>) -> Result<(), AllocError> {
+        text.extend_from_slice(CLOSING)
     }
 }
 
@@ -153,4 +164,19 @@ fn texts_of_faults(rt: HostRuntime) {
     }
     let write = ReportFault::Write { written: 5 };
     has_text(&rt, rt.alloc(), write, "write fault after 5 bytes");
+}
+
+/// A document may end with more than a report takes at once.
+#[test]
+fn a_long_end(rt: HostRuntime) {
+    let mut source = FILE.as_slice();
+    let mut sink = WriteSink::new(Vec::new(rt.alloc()));
+    let mut reporter = Dots {
+        heard: Heard::new(),
+    };
+    let found = report_document(rt.alloc(), &mut source, &mut sink, &mut reporter);
+    assert!(rt; found == Ok(()));
+    let text = sink.into_inner();
+    equal(&rt, &text.len(), &(4 + CLOSING.len()));
+    assert!(rt; text.as_slice().ends_with(CLOSING));
 }
