@@ -1,10 +1,11 @@
 //! Looks at messages ahead, and skips them at once.
-ghost use Rattle.std.specs.Prelude.{◌≡◌, ℕ, ◌+◌, ◌<◌, ◌≤◌, List, ◌++◌, drop, length, map, take, None};
+ghost use Rattle.std.specs.Prelude.{◌≡◌, ℕ, ◌+◌, ◌<◌, ◌≤◌, List, [], ◌++◌, drop, length, map, take, None};
 ghost use Rattle.fit_record.specs.Files.{chain_limit, IsViable};
 ghost use Rattle.fit_record.specs.declared.message.Record.{Record};
 ghost use Rattle.fit_chain.specs.Events.{Event as Told, AreEvents, item};
 ghost use Rattle.fit_chain.specs.Memory.{IsAny, MayLackMemoryIn};
 ghost use Rattle.fit_decode.specs.Answers.{MessageFollows, MessagesFollow, NextMessage};
+ghost use Rattle.fit_decode.specs.inner.Aheads.{IsAhead};
 
 use super::{Decoder, count_fed};
 use crate::section::{Section, cover};
@@ -27,7 +28,6 @@ pub struct Ahead<'a, A: Allocator + Copy = Global> {
 
 impl<'a, A: Allocator + Copy> Model for Ahead<'a, A> {
     ghost use Rattle.fit_decode.specs.Answers.{LookedAhead};
-    ghost use Rattle.fit_decode.specs.inner.Aheads.{IsAhead};
 
     ghost Value = { LookedAhead };
 
