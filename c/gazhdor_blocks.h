@@ -88,15 +88,15 @@ static inline uint64_t gazhdor_load(gazhdor_block block, uint64_t at, size_t wid
 static inline gazhdor_block gazhdor_first(gazhdor_text blocks)
 {
     gazhdor_block none = { GAZHDOR_NULL, 0, 0, 0, 0, 0 }, block = { blocks.bytes, blocks.length, 0, 0, 0, 0 };
-    block.length = GAZHDOR_CAST(size_t, gazhdor_load(block, 0, 4));
-    if (block.length > blocks.length || block.length < 24 || block.length % 8 != 0)
+    block.length = GAZHDOR_CAST(size_t, gazhdor_load(block, GAZHDOR_AT_LENGTH, 4));
+    if (block.length > blocks.length || block.length < GAZHDOR_LEAST_BLOCK || block.length % 8 != 0)
         return none;
-    block.kind = block.bytes[4];
-    block.file = GAZHDOR_CAST(uint32_t, gazhdor_load(block, 8, 4));
-    block.place = gazhdor_load(block, 16, 8);
+    block.kind = block.bytes[GAZHDOR_AT_KIND];
+    block.file = GAZHDOR_CAST(uint32_t, gazhdor_load(block, GAZHDOR_AT_FILE, 4));
+    block.place = gazhdor_load(block, GAZHDOR_AT_PLACE, 8);
     if (block.kind == GAZHDOR_DEFINITION || block.kind == GAZHDOR_MESSAGE) {
-        block.number = gazhdor_load(block, 24, 8);
-        if (block.length < 40)
+        block.number = gazhdor_load(block, GAZHDOR_AT_DEFINITION_NUMBER, 8);
+        if (block.length < GAZHDOR_AT_DEFINITION_NAME)
             return none;
     }
     return block;
@@ -124,11 +124,12 @@ static inline int gazhdor_next(gazhdor_reader *reader)
     reader->left.bytes += block.length;
     reader->left.length -= block.length;
     if (block.kind == GAZHDOR_DEFINITION)
-        reader->definition = reader->known[block.bytes[5] & 15] = block;
-    if (block.kind == GAZHDOR_MESSAGE && reader->known[block.bytes[6] & 15].number == block.number)
-        reader->definition = reader->known[block.bytes[6] & 15];
+        reader->definition = reader->known[block.bytes[GAZHDOR_AT_DEFINITION_LOCAL] & 15] = block;
+    const gazhdor_block *known = &reader->known[block.bytes[GAZHDOR_AT_MESSAGE_LOCAL] & 15];
+    if (block.kind == GAZHDOR_MESSAGE && known->number == block.number)
+        reader->definition = *known;
     if (block.kind == GAZHDOR_MESSAGE && reader->definition.bytes != GAZHDOR_NULL)
-        reader->message = GAZHDOR_CAST(uint32_t, gazhdor_load(reader->definition, 32, 2));
+        reader->message = GAZHDOR_CAST(uint32_t, gazhdor_load(reader->definition, GAZHDOR_AT_DEFINITION_MESSAGE, 2));
     return 1;
 }
 
@@ -194,21 +195,25 @@ static inline const char *gazhdor_name_at(gazhdor_block block, size_t at)
 /* The name of the messages of a definition, as "record"; "" where the profile has none. */
 static inline const char *gazhdor_message_name(gazhdor_block definition)
 {
-    return definition.kind == GAZHDOR_DEFINITION ? gazhdor_name_at(definition, 40) : "";
+    return definition.kind == GAZHDOR_DEFINITION ? gazhdor_name_at(definition, GAZHDOR_AT_DEFINITION_NAME) : "";
 }
 
 /* The field that is described at this place in the block of its definition. For the next two. */
 static inline gazhdor_field gazhdor_field_at(gazhdor_block definition, size_t at)
 {
     static const gazhdor_field none = { 0, "", "", GAZHDOR_NO_DEFINITION, 0, 0, 0, 0, 0, 0, 0, 0, 0, 0, 0, 0, 0 };
-    size_t length = GAZHDOR_CAST(size_t, gazhdor_load(definition, at, 2));
-    if (definition.kind != GAZHDOR_DEFINITION || length < 48 || length > definition.length - at)
+    size_t length = GAZHDOR_CAST(size_t, gazhdor_load(definition, at + GAZHDOR_AT_ENTRY_LENGTH, 2));
+    if (definition.kind != GAZHDOR_DEFINITION || length < GAZHDOR_LEAST_ENTRY || length > definition.length - at)
         return none;
     const uint8_t *own = definition.bytes + at;
     gazhdor_block entry = { own, length, 0, 0, 0, 0 };
-    gazhdor_field field = { 1, gazhdor_name_at(entry, 32), gazhdor_name_at(entry, GAZHDOR_CAST(size_t, gazhdor_load(entry, 2, 2))),
-        definition.number, gazhdor_load(entry, 24, 8), GAZHDOR_CAST(uint32_t, gazhdor_load(entry, 12, 4)),
-        GAZHDOR_CAST(uint32_t, gazhdor_load(entry, 16, 4)), GAZHDOR_CAST(uint32_t, gazhdor_load(entry, 20, 4)), own[4], own[5], own[6], own[7], own[8], own[9], own[10], own[11], at + length };
+    gazhdor_field field = { 1, gazhdor_name_at(entry, GAZHDOR_AT_ENTRY_NAME),
+        gazhdor_name_at(entry, GAZHDOR_CAST(size_t, gazhdor_load(entry, GAZHDOR_AT_ENTRY_UNIT, 2))), definition.number,
+        gazhdor_load(entry, GAZHDOR_AT_ENTRY_INVALID, 8), GAZHDOR_CAST(uint32_t, gazhdor_load(entry, GAZHDOR_AT_ENTRY_ITEMS, 4)),
+        GAZHDOR_CAST(uint32_t, gazhdor_load(entry, GAZHDOR_AT_ENTRY_SCALE, 4)),
+        GAZHDOR_CAST(uint32_t, gazhdor_load(entry, GAZHDOR_AT_ENTRY_OFFSET, 4)), own[GAZHDOR_AT_ENTRY_NUMBER],
+        own[GAZHDOR_AT_ENTRY_DEVELOPER], own[GAZHDOR_AT_ENTRY_INDEX], own[GAZHDOR_AT_ENTRY_BASE_TYPE], own[GAZHDOR_AT_ENTRY_KIND],
+        own[GAZHDOR_AT_ENTRY_WIDTH], own[GAZHDOR_AT_ENTRY_COUNT], own[GAZHDOR_AT_ENTRY_DECIMALS], at + length };
     return field;
 }
 
@@ -216,7 +221,7 @@ static inline gazhdor_field gazhdor_field_at(gazhdor_block definition, size_t at
  * none after the last, after a field that isn't there, and after one of another definition. */
 static inline gazhdor_field gazhdor_first_field(gazhdor_block definition)
 {
-    return gazhdor_field_at(definition, 48 + strlen(gazhdor_message_name(definition)) / 8 * 8);
+    return gazhdor_field_at(definition, GAZHDOR_AT_DEFINITION_NAME + 8 + strlen(gazhdor_message_name(definition)) / 8 * 8);
 }
 
 static inline gazhdor_field gazhdor_next_field(gazhdor_block definition, gazhdor_field field)
@@ -324,13 +329,13 @@ static inline gazhdor_text gazhdor_string(gazhdor_field field, gazhdor_block mes
  * GAZHDOR_NO_TIME where neither tells it. */
 static inline uint32_t gazhdor_time(gazhdor_block message)
 {
-    return message.kind == GAZHDOR_MESSAGE ? GAZHDOR_CAST(uint32_t, gazhdor_load(message, 12, 4)) : GAZHDOR_NO_TIME;
+    return message.kind == GAZHDOR_MESSAGE ? GAZHDOR_CAST(uint32_t, gazhdor_load(message, GAZHDOR_AT_MESSAGE_TIME, 4)) : GAZHDOR_NO_TIME;
 }
 
 /* The time of a compressed header alone. */
 static inline uint32_t gazhdor_header_time(gazhdor_block message)
 {
-    return message.kind == GAZHDOR_MESSAGE ? GAZHDOR_CAST(uint32_t, gazhdor_load(message, 32, 4)) : GAZHDOR_NO_TIME;
+    return message.kind == GAZHDOR_MESSAGE ? GAZHDOR_CAST(uint32_t, gazhdor_load(message, GAZHDOR_AT_MESSAGE_HEADER_TIME, 4)) : GAZHDOR_NO_TIME;
 }
 
 /* What a record message tells by a compressed or a short field: GAZHDOR_SPEED, in m/s; or added up over its file, GAZHDOR_DISTANCE, in
@@ -338,9 +343,10 @@ static inline uint32_t gazhdor_header_time(gazhdor_block message)
 static inline double gazhdor_amount(gazhdor_block message, uint32_t amount)
 {
     static const double parts[4] = { 100, 16, 1, 1 };
-    if (message.kind != GAZHDOR_MESSAGE || message.length < 72 || amount > 3 || (message.bytes[5] & (4u << amount)) == 0)
+    if (message.kind != GAZHDOR_MESSAGE || message.length < GAZHDOR_AT_MESSAGE_COUNTED_ITEMS || amount > GAZHDOR_POWER
+        || (message.bytes[GAZHDOR_AT_MESSAGE_BITS] & (GAZHDOR_TOLD_SPEED << amount)) == 0)
         return NAN;
-    return GAZHDOR_CAST(double, gazhdor_load(message, 40 + 8 * amount, 8)) / parts[amount];
+    return GAZHDOR_CAST(double, gazhdor_load(message, GAZHDOR_AT_MESSAGE_SPEED + 8 * amount, 8)) / parts[amount];
 }
 
 #ifdef __cplusplus

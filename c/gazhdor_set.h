@@ -158,9 +158,9 @@ static inline uint32_t gazhdor_set_offset(gazhdor_writer *to, uint32_t seconds)
         return GAZHDOR_PUT_ORDER;
     if (seconds > 31 && seconds != GAZHDOR_NO_OFFSET)
         return GAZHDOR_PUT_RANGE;
-    if (to->bytes[to->message + 6] > 3 && seconds != GAZHDOR_NO_OFFSET)
+    if (to->bytes[to->message + GAZHDOR_AT_MESSAGE_LOCAL] > 3 && seconds != GAZHDOR_NO_OFFSET)
         return GAZHDOR_PUT_LOCAL;
-    to->bytes[to->message + 7] = GAZHDOR_CAST(uint8_t, seconds);
+    to->bytes[to->message + GAZHDOR_AT_MESSAGE_OFFSET] = GAZHDOR_CAST(uint8_t, seconds);
     return GAZHDOR_PUT;
 }
 

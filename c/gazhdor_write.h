@@ -180,9 +180,9 @@ static inline uint8_t *gazhdor_new_block(gazhdor_writer *to, size_t length, uint
         return GAZHDOR_NULL;
     uint8_t *block = to->bytes + to->length;
     memset(block, 0, length);
-    gazhdor_store(block, length, 4);
-    gazhdor_store(block + 4, kind, 1);
-    gazhdor_store(block + 8, to->file, 4);
+    gazhdor_store(block + GAZHDOR_AT_LENGTH, length, 4);
+    gazhdor_store(block + GAZHDOR_AT_KIND, kind, 1);
+    gazhdor_store(block + GAZHDOR_AT_FILE, to->file, 4);
     to->message = GAZHDOR_NOWHERE;
     to->length += length;
     return block;
@@ -193,17 +193,17 @@ static inline uint32_t gazhdor_put_header(gazhdor_writer *to, uint32_t profile)
 {
     if (to->within || profile > 0xFFFF)
         return gazhdor_missed(to, to->within ? GAZHDOR_PUT_ORDER : GAZHDOR_PUT_RANGE);
-    uint8_t *block = gazhdor_new_block(to, 32, GAZHDOR_FILE_HEADER);
+    uint8_t *block = gazhdor_new_block(to, GAZHDOR_AT_HEADER_REST, GAZHDOR_FILE_HEADER);
     if (block == GAZHDOR_NULL)
         return gazhdor_missed(to, GAZHDOR_PUT_FULL);
     gazhdor_know_nothing(to);
     to->within = 1;
     to->file++;
-    block[5] = 14;
-    block[6] = 0x20;
-    block[7] = 2;
-    gazhdor_store(block + 8, to->file, 4);
-    gazhdor_store(block + 24, profile, 8);
+    block[GAZHDOR_AT_HEADER_SIZE] = 14;
+    block[GAZHDOR_AT_HEADER_PROTOCOL] = 0x20;
+    block[GAZHDOR_AT_HEADER_SUM] = GAZHDOR_OWN_SUM;
+    gazhdor_store(block + GAZHDOR_AT_FILE, to->file, 4);
+    gazhdor_store(block + GAZHDOR_AT_HEADER_PROFILE, profile, 8);
     return GAZHDOR_PUT;
 }
 
@@ -212,7 +212,7 @@ static inline uint32_t gazhdor_put_end(gazhdor_writer *to)
 {
     if (!to->within)
         return gazhdor_missed(to, GAZHDOR_PUT_ORDER);
-    if (gazhdor_new_block(to, 24, GAZHDOR_FILE_END) == GAZHDOR_NULL)
+    if (gazhdor_new_block(to, GAZHDOR_LEAST_BLOCK, GAZHDOR_FILE_END) == GAZHDOR_NULL)
         return gazhdor_missed(to, GAZHDOR_PUT_FULL);
     to->within = 0;
     return GAZHDOR_PUT;
@@ -243,17 +243,23 @@ static inline uint32_t gazhdor_judge(const gazhdor_field *fields, size_t count, 
     return count - *developer > 255 || *developer > 255 ? GAZHDOR_PUT_COUNT : GAZHDOR_PUT;
 }
 
-/* The entry of a field, of 48 bytes. */
+/* The entry of a field, with a name and a unit that are empty. */
 static inline void gazhdor_store_entry(uint8_t *entry, gazhdor_field field)
 {
-    const uint8_t kind[8] = { field.number, field.developer != 0, field.index, field.base_type, field.kind, field.width, field.count, field.decimals };
-    gazhdor_store(entry, 48, 2);
-    gazhdor_store(entry + 2, 40, 2);
-    memcpy(entry + 4, kind, 8);
-    gazhdor_store(entry + 12, field.at, 4);
-    gazhdor_store(entry + 16, field.scale, 4);
-    gazhdor_store(entry + 20, field.offset, 4);
-    gazhdor_store(entry + 24, field.invalid, 8);
+    gazhdor_store(entry + GAZHDOR_AT_ENTRY_LENGTH, GAZHDOR_LEAST_ENTRY, 2);
+    gazhdor_store(entry + GAZHDOR_AT_ENTRY_UNIT, GAZHDOR_AT_ENTRY_NAME + 8, 2);
+    entry[GAZHDOR_AT_ENTRY_NUMBER] = field.number;
+    entry[GAZHDOR_AT_ENTRY_DEVELOPER] = field.developer != 0;
+    entry[GAZHDOR_AT_ENTRY_INDEX] = field.index;
+    entry[GAZHDOR_AT_ENTRY_BASE_TYPE] = field.base_type;
+    entry[GAZHDOR_AT_ENTRY_KIND] = field.kind;
+    entry[GAZHDOR_AT_ENTRY_WIDTH] = field.width;
+    entry[GAZHDOR_AT_ENTRY_COUNT] = field.count;
+    entry[GAZHDOR_AT_ENTRY_DECIMALS] = field.decimals;
+    gazhdor_store(entry + GAZHDOR_AT_ENTRY_ITEMS, field.at, 4);
+    gazhdor_store(entry + GAZHDOR_AT_ENTRY_SCALE, field.scale, 4);
+    gazhdor_store(entry + GAZHDOR_AT_ENTRY_OFFSET, field.offset, 4);
+    gazhdor_store(entry + GAZHDOR_AT_ENTRY_INVALID, field.invalid, 8);
 }
 
 /* Defines what the messages of a local message type are: of the message with this number, with these fields and then developer fields, in
@@ -262,13 +268,13 @@ static inline void gazhdor_store_entry(uint8_t *entry, gazhdor_field field)
 static inline uint32_t gazhdor_put_definition(gazhdor_writer *to, uint32_t local, uint32_t message, gazhdor_field *fields, size_t count)
 {
     size_t developer;
-    uint32_t answer = gazhdor_judge(fields, count, &developer), begins = 40;
+    uint32_t answer = gazhdor_judge(fields, count, &developer), begins = GAZHDOR_AT_MESSAGE_ITEMS;
     if (!to->within || local > 15 || message > 0xFFFF)
         answer = !to->within ? GAZHDOR_PUT_ORDER : local > 15 ? GAZHDOR_PUT_LOCAL : GAZHDOR_PUT_RANGE;
     if (answer != GAZHDOR_PUT)
         return gazhdor_missed(to, answer);
-    size_t place = to->length;
-    uint8_t *block = gazhdor_new_block(to, 48 + 48 * count, GAZHDOR_DEFINITION);
+    size_t place = to->length, entry = GAZHDOR_AT_DEFINITION_NAME + 8;
+    uint8_t *block = gazhdor_new_block(to, entry + GAZHDOR_LEAST_ENTRY * count, GAZHDOR_DEFINITION);
     if (block == GAZHDOR_NULL)
         return gazhdor_missed(to, GAZHDOR_PUT_FULL);
     uint64_t number = (GAZHDOR_CAST(uint64_t, 1) << 63) + to->definitions++;
@@ -276,17 +282,18 @@ static inline uint32_t gazhdor_put_definition(gazhdor_writer *to, uint32_t local
     for (size_t i = 0; i < count; i++) {
         fields[i].definition = number;
         fields[i].at = begins;
-        fields[i].end = 96 + 48 * i;
-        gazhdor_store_entry(block + 48 + 48 * i, fields[i]);
+        gazhdor_store_entry(block + entry, fields[i]);
+        entry += GAZHDOR_LEAST_ENTRY;
+        fields[i].end = entry;
         begins += GAZHDOR_CAST(uint32_t, gazhdor_slot(fields[i]));
     }
-    gazhdor_store(block + 5, local, 1);
-    gazhdor_store(block + 12, begins, 4);
-    gazhdor_store(block + 24, number, 8);
-    gazhdor_store(block + 32, message, 2);
-    gazhdor_store(block + 34, count - developer, 2);
-    gazhdor_store(block + 36, developer, 2);
-    gazhdor_store(block + 38, developer != 0, 2);
+    gazhdor_store(block + GAZHDOR_AT_DEFINITION_LOCAL, local, 1);
+    gazhdor_store(block + GAZHDOR_AT_DEFINITION_MESSAGE_LENGTH, begins, 4);
+    gazhdor_store(block + GAZHDOR_AT_DEFINITION_NUMBER, number, 8);
+    gazhdor_store(block + GAZHDOR_AT_DEFINITION_MESSAGE, message, 2);
+    gazhdor_store(block + GAZHDOR_AT_DEFINITION_FIELDS, count - developer, 2);
+    gazhdor_store(block + GAZHDOR_AT_DEFINITION_DEVELOPERS, developer, 2);
+    gazhdor_store(block + GAZHDOR_AT_DEFINITION_BITS, developer != 0 ? GAZHDOR_SAYS_DEVELOPERS : 0, 2);
     return GAZHDOR_PUT;
 }
 
@@ -314,20 +321,20 @@ static inline uint32_t gazhdor_set_invalid(gazhdor_writer *to, gazhdor_field fie
 static inline uint32_t gazhdor_put_message(gazhdor_writer *to, uint32_t local)
 {
     gazhdor_block definition = gazhdor_block_at(to, local > 15 ? GAZHDOR_NOWHERE : to->known[local]);
-    size_t length = GAZHDOR_CAST(size_t, gazhdor_load(definition, 12, 4)), place = to->length;
+    size_t length = GAZHDOR_CAST(size_t, gazhdor_load(definition, GAZHDOR_AT_DEFINITION_MESSAGE_LENGTH, 4)), place = to->length;
     if (!to->within || definition.kind != GAZHDOR_DEFINITION)
         return gazhdor_missed(to, to->within ? GAZHDOR_PUT_LOCAL : GAZHDOR_PUT_ORDER);
-    if (length < 40 || length > 72 + 510 * 256 || length % 8 != 0)
+    if (length < GAZHDOR_AT_MESSAGE_ITEMS || length > GAZHDOR_AT_MESSAGE_COUNTED_ITEMS + 510 * 256 || length % 8 != 0)
         return gazhdor_missed(to, GAZHDOR_PUT_LENGTH);
     uint8_t *block = gazhdor_new_block(to, length, GAZHDOR_MESSAGE);
     if (block == GAZHDOR_NULL)
         return gazhdor_missed(to, GAZHDOR_PUT_FULL);
     definition = gazhdor_block_at(to, to->known[local]);
-    gazhdor_store(block + 6, local, 1);
-    gazhdor_store(block + 7, 255, 1);
-    gazhdor_store(block + 12, GAZHDOR_NO_TIME, 4);
-    gazhdor_store(block + 24, definition.number, 8);
-    gazhdor_store(block + 32, GAZHDOR_NO_TIME, 8);
+    gazhdor_store(block + GAZHDOR_AT_MESSAGE_LOCAL, local, 1);
+    gazhdor_store(block + GAZHDOR_AT_MESSAGE_OFFSET, GAZHDOR_NO_OFFSET, 1);
+    gazhdor_store(block + GAZHDOR_AT_MESSAGE_TIME, GAZHDOR_NO_TIME, 4);
+    gazhdor_store(block + GAZHDOR_AT_MESSAGE_DEFINITION, definition.number, 8);
+    gazhdor_store(block + GAZHDOR_AT_MESSAGE_HEADER_TIME, GAZHDOR_NO_TIME, 8);
     to->message = place;
     for (gazhdor_field f = gazhdor_first_field(definition); f.there; f = gazhdor_next_field(definition, f))
         gazhdor_set_invalid(to, f);
@@ -341,9 +348,9 @@ static inline uint32_t gazhdor_put_block(gazhdor_writer *to, gazhdor_block block
     gazhdor_text bytes = { block.bytes, block.length };
     gazhdor_block whole = gazhdor_first(bytes);
     size_t place = to->length;
-    if (whole.bytes == GAZHDOR_NULL || whole.length != block.length || whole.kind < 1 || whole.kind > 4)
+    if (whole.bytes == GAZHDOR_NULL || whole.length != block.length || whole.kind < GAZHDOR_FILE_HEADER || whole.kind > GAZHDOR_FILE_END)
         return gazhdor_missed(to, GAZHDOR_PUT_LENGTH);
-    uint32_t local = whole.bytes[whole.kind == GAZHDOR_DEFINITION ? 5 : 6];
+    uint32_t local = whole.bytes[whole.kind == GAZHDOR_DEFINITION ? GAZHDOR_AT_DEFINITION_LOCAL : GAZHDOR_AT_MESSAGE_LOCAL];
     if ((whole.kind != GAZHDOR_FILE_HEADER) != to->within)
         return gazhdor_missed(to, GAZHDOR_PUT_ORDER);
     int is_local = whole.kind == GAZHDOR_DEFINITION || whole.kind == GAZHDOR_MESSAGE;

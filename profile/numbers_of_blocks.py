@@ -120,7 +120,9 @@ def c_names(text):
 
 PYTHON = '''"""The numbers of the library and of its blocks (docs/BLOCKS.md), by their names. Written by profile/make."""
 
-{parts}# What a call found.
+{parts}# The numbers of a block up to what has no length of its own, and of an entry, as `struct` packs them.
+{formats}
+# What a call found.
 {statuses}
 # What is made of the pieces of a stream.
 {streams}
@@ -164,11 +166,28 @@ def grouped(number):
     return '0x' + '_'.join(reversed(groups)) if int(number, 16) else '0'
 
 
+
+def formats():
+    """The formats by which `struct` packs a block up to what has no length of its own: the places of each block and those of its kind."""
+    found = block_rows()
+    each = [row for row in found if row[0] == 'block']
+    for part in ('header', 'definition', 'message', 'entry'):
+        own = [row for row in found if row[0] == part and row[3]]
+        every = sorted(own if part == 'entry' else each + own, key=lambda row: int(row[2]))
+        at, code = 0, '<'
+        for _, name, number, size, _, _ in every:
+            if int(number) == at:
+                code += {'1': 'B', '2': 'H', '4': 'I', '8': 'Q'}[size]
+                at += int(size)
+        yield part, code
+
+
 def python():
     types = ''.join(f'    ("{name}", {code}, {kind}, {width}, {invalid}),\n' for name, code, kind, width, invalid, _ in base_types())
     said = ''.join(f'{name} = {number}\n' for number, (name, *_) in enumerate(statuses()))
     kinds = ''.join(f'STREAM_{kind} = {number}\n' for number, (kind, _) in enumerate(streams()))
-    return filled(PYTHON, parts=listed('#', '{name} = {number}\n'), statuses=said, streams=kinds, types=types)
+    return filled(PYTHON, parts=listed('#', '{name} = {number}\n'), statuses=said, streams=kinds, types=types,
+                  formats=''.join(f'{part.upper()}_FORMAT = "{code}"\n' for part, code in formats()))
 
 
 def rust():

@@ -1,13 +1,16 @@
 /* What the library found, and the errors that say so. */
+import { BLOCK, CLOSED, GOOD, NO_KIND, NO_MEMORY, REFUSED, TEXT, TRUNCATED, UNWRITABLE } from "./numbers.mjs"
 
-const TEXTS = ["ok", "", "", "out of memory", "", "no file has such rows", "closed", "no such kind", ""]
-export const [GOOD, REFUSED, TRUNCATED, NO_MEMORY, TEXT, UNWRITABLE, CLOSED, NO_KIND, BLOCK] = TEXTS.keys()
+const TEXTS = {
+    [GOOD]: "ok", [NO_MEMORY]: "out of memory", [UNWRITABLE]: "no file has such rows", [CLOSED]: "closed", [NO_KIND]: "no such kind",
+}
 
-const EXPLANATIONS = [
-    null, null, null, "Memory was refused, which says nothing of the bytes.", null,
-    "The rows are those of files that have no bytes: one is too long, or has zeros in place of a checksum of 0.", "The stream is closed.",
-    "There is no such kind of stream.",
-]
+const EXPLANATIONS = {
+    [NO_MEMORY]: "Memory was refused, which says nothing of the bytes.",
+    [UNWRITABLE]: "The rows are those of files that have no bytes: one is too long, or has zeros in place of a checksum of 0.",
+    [CLOSED]: "The stream is closed.",
+    [NO_KIND]: "There is no such kind of stream.",
+}
 
 const NO_SUCH_FILES = "The blocks are those of files that have no bytes: one is too long, or has zeros in place of a checksum of 0."
 
@@ -61,7 +64,7 @@ export class Answer {
         if (this.place !== null) return `The bytes end at ${this.place}, before the file does.`
         if (this.column !== null) return `The cell in row ${this.row}, column ${this.column} isn't allowed there.`
         if (this.row !== null) return `Row ${this.row} isn't allowed there.`
-        return EXPLANATIONS[this.status]
+        return EXPLANATIONS[this.status] ?? null
     }
 
     toString() {

@@ -1,7 +1,10 @@
 /* Columns of messages: typed arrays, filled from blocks where they lie in the module's memory. */
 import { OutOfMemory, TooManyCells } from "./answers.mjs"
-import { NO_TIME, SYSTEM_TIMES, degrees, milliseconds } from "./messages.mjs"
-import { FLOAT, SIGNED, UNSIGNED } from "./numbers.mjs"
+import { SYSTEM_TIMES, degrees, milliseconds } from "./messages.mjs"
+import {
+    AT_FILE, AT_MESSAGE_CYCLES, AT_MESSAGE_DISTANCE, AT_MESSAGE_LOCAL, AT_MESSAGE_POWER, AT_MESSAGE_SPEED,
+    AT_MESSAGE_TIME, AT_PLACE, FLOAT, NO_TIME, SIGNED, UNSIGNED,
+} from "./numbers.mjs"
 import { UnknownName, fieldsOf } from "./profile.mjs"
 import { labelOf, scaler } from "./values.mjs"
 
@@ -22,8 +25,14 @@ function inDegrees(entry) {
 }
 
 /* What a message tells of itself, by the names of its attributes: where it stands in each block, and in those that have counters. */
-const OWN = { ".file": placed(8, 4), ".place": placed(16, 8), ".local": placed(6, 1), ".seconds": placed(12, 4) }
-const COUNTED = { ".speed": placed(40, 8, 100), ".distance": placed(48, 8, 16), ".total_cycles": placed(56, 8), ".accumulated_power": placed(64, 8) }
+const OWN = {
+    ".file": placed(AT_FILE, 4), ".place": placed(AT_PLACE, 8), ".local": placed(AT_MESSAGE_LOCAL, 1),
+    ".seconds": placed(AT_MESSAGE_TIME, 4),
+}
+const COUNTED = {
+    ".speed": placed(AT_MESSAGE_SPEED, 8, 100), ".distance": placed(AT_MESSAGE_DISTANCE, 8, 16),
+    ".total_cycles": placed(AT_MESSAGE_CYCLES, 8), ".accumulated_power": placed(AT_MESSAGE_POWER, 8),
+}
 const POSITIONS = { ".latitude": "position_lat", ".longitude": "position_long" }
 const TIMES = ["timestamp", ".time"]
 const SELF = [...Object.keys(OWN), ...Object.keys(COUNTED), ...Object.keys(POSITIONS), ".time"]
@@ -94,7 +103,7 @@ class Column {
         this.reach(row)
         const seconds = views.unsigned[4], rows = (end - begin) / length
         this.#grow(row + rows)
-        for (let at = begin / 4 + 3, k = row; k < row + rows; k++, at += length / 4) {
+        for (let at = (begin + AT_MESSAGE_TIME) / 4, k = row; k < row + rows; k++, at += length / 4) {
             const told = seconds[at]
             this.#numbers[k] = told === NO_TIME || told < SYSTEM_TIMES ? NaN : milliseconds(told)
         }

@@ -1,6 +1,7 @@
 /* Calls into the module: bytes are copied into its memory, a call of the proved library is made, and what that made is handed out where it
  * lies, and then freed. */
-import { Answer, NO_MEMORY, OutOfMemory, Trapped, WrongModule } from "./answers.mjs"
+import { Answer, OutOfMemory, Trapped, WrongModule } from "./answers.mjs"
+import { NO_MEMORY } from "./numbers.mjs"
 
 export const VERSION = "0.6.0"
 

@@ -1,8 +1,13 @@
 /* Mends what was broken off or damaged: all good records of it, and an end. */
 import { OutOfMemory } from "./answers.mjs"
+import {
+    AT_DEFINITION_BITS, AT_DEFINITION_DEVELOPERS, AT_DEFINITION_FIELDS, AT_DEFINITION_LOCAL, AT_ENTRY_COUNT,
+    AT_ENTRY_LENGTH, AT_ENTRY_WIDTH, AT_KIND, AT_LENGTH, AT_MESSAGE_LOCAL, AT_PLACE, DEFINITION, FILE_END, MESSAGE,
+    NO_MEMORY, SAYS_DEVELOPERS,
+} from "./numbers.mjs"
 import { Pipe } from "./streams.mjs"
+import { firstEntry } from "./values.mjs"
 
-const [DEFINITION, MESSAGE, END] = [2, 3, 4]
 const MOST = 2 ** 32 - 1 // the size of the largest data section
 
 const SUMS = Uint16Array.from({ length: 256 }, (_, byte) => {
@@ -36,24 +41,24 @@ class Ends {
     take(blocks) {
         const view = new DataView(blocks.buffer, blocks.byteOffset, blocks.byteLength)
         for (let at = 0, length; at < blocks.length; at += length) {
-            length = view.getUint32(at, true)
-            const kind = blocks[at + 4], place = Number(view.getBigUint64(at + 16, true))
-            if (kind === MESSAGE) this.record = place + 1 + this.#sizes.get(blocks[at + 6])
+            length = view.getUint32(at + AT_LENGTH, true)
+            const kind = blocks[at + AT_KIND], place = Number(view.getBigUint64(at + AT_PLACE, true))
+            if (kind === MESSAGE) this.record = place + 1 + this.#sizes.get(blocks[at + AT_MESSAGE_LOCAL])
             else if (kind === DEFINITION) this.record = place + this.#define(blocks, view, at)
-            else if (kind === END) this.file = place + 2
+            else if (kind === FILE_END) this.file = place + 2
         }
     }
 
     /* How many bytes a definition message has. */
     #define(blocks, view, at) {
-        const fields = view.getUint16(at + 34, true), developer = view.getUint16(at + 36, true)
-        let entry = at + 40 + ((blocks.subarray(at + 40).indexOf(0) + 8) & ~7), size = 0
+        const fields = view.getUint16(at + AT_DEFINITION_FIELDS, true), developer = view.getUint16(at + AT_DEFINITION_DEVELOPERS, true)
+        let entry = firstEntry(blocks, at), size = 0
         for (let k = 0; k < fields + developer; k++) {
-            size += blocks[entry + 9] * blocks[entry + 10]
-            entry += view.getUint16(entry, true)
+            size += blocks[entry + AT_ENTRY_WIDTH] * blocks[entry + AT_ENTRY_COUNT]
+            entry += view.getUint16(entry + AT_ENTRY_LENGTH, true)
         }
-        this.#sizes.set(blocks[at + 5], size)
-        return 6 + 3 * fields + (view.getUint16(at + 38, true) & 1 ? 1 + 3 * developer : 0)
+        this.#sizes.set(blocks[at + AT_DEFINITION_LOCAL], size)
+        return 6 + 3 * fields + (view.getUint16(at + AT_DEFINITION_BITS, true) & SAYS_DEVELOPERS ? 1 + 3 * developer : 0)
     }
 }
 
@@ -63,7 +68,7 @@ function endsOf(core, ...parts) {
     try {
         for (let size = 256, [part, ...more] = parts; part !== undefined; size = Math.min(2 * size, 1 << 18)) {
             const [answer] = pipe.feed(part.subarray(0, size), blocks => ends.take(blocks))
-            if (answer.status === 3) throw new OutOfMemory()
+            if (answer.status === NO_MEMORY) throw new OutOfMemory()
             if (!answer.good) break
             part = part.subarray(size)
             if (part.length === 0) [part, ...more] = more

@@ -1,10 +1,15 @@
 /* Messages as values, made from the blocks of docs/BLOCKS.md. */
+import {
+    AT_DEFINITION_LOCAL, AT_DEFINITION_MESSAGE, AT_DEFINITION_NUMBER, AT_FILE, AT_KIND, AT_LENGTH, AT_MESSAGE_BITS,
+    AT_MESSAGE_CYCLES, AT_MESSAGE_DEFINITION, AT_MESSAGE_DISTANCE, AT_MESSAGE_HEADER_TIME, AT_MESSAGE_LOCAL,
+    AT_MESSAGE_OFFSET, AT_MESSAGE_POWER, AT_MESSAGE_SPEED, AT_MESSAGE_TIME, AT_PLACE, DEFINITION, MESSAGE, NO_OFFSET,
+    TOLD_CYCLES, TOLD_DISTANCE, TOLD_HEADER_TIME, TOLD_POWER, TOLD_SPEED, TOLD_TIME,
+} from "./numbers.mjs"
 import { seeMessage } from "./profile.mjs"
 import { Definition, exactOf, rawOf, whole } from "./values.mjs"
 
 const EPOCH = 631065600 // 1989-12-31T00:00:00 UTC, in seconds since 1970
 export const SYSTEM_TIMES = 0x10000000 // A time below is the device's own, which didn't know the time of day.
-export const NO_TIME = 0xffffffff
 
 /* Seconds since 1989-12-31T00:00:00 UTC as milliseconds since 1970, as a Date has them. */
 export const milliseconds = seconds => (seconds + EPOCH) * 1000
@@ -74,25 +79,28 @@ export class Message {
     get fields() { return this.#definition.entries.map(entry => new Field(entry, this.#part, this.#at)) }
     get name() { return this.#definition.name }
     get number() { return this.#definition.number }
-    get local() { return this.#part.bytes[this.#at + 6] }
-    get file() { return this.#part.view.getUint32(this.#at + 8, true) }
-    get place() { return Number(this.#part.view.getBigUint64(this.#at + 16, true)) }
-    get seconds() { return this.#told(1) ? this.#part.view.getUint32(this.#at + 12, true) : null }
+    get local() { return this.#part.bytes[this.#at + AT_MESSAGE_LOCAL] }
+    get file() { return this.#part.view.getUint32(this.#at + AT_FILE, true) }
+    get place() { return Number(this.#part.view.getBigUint64(this.#at + AT_PLACE, true)) }
+    get seconds() { return this.#told(TOLD_TIME) ? this.#part.view.getUint32(this.#at + AT_MESSAGE_TIME, true) : null }
     get time() { return when(this.seconds) }
-    get headerTime() { return this.#told(2) ? when(this.#part.view.getUint32(this.#at + 32, true)) : null }
 
-    get timeOffset() {
-        const offset = this.#part.bytes[this.#at + 7]
-        return offset === 0xff ? null : offset
+    get headerTime() {
+        return this.#told(TOLD_HEADER_TIME) ? when(this.#part.view.getUint32(this.#at + AT_MESSAGE_HEADER_TIME, true)) : null
     }
 
-    #told(bit) { return (this.#part.bytes[this.#at + 5] & bit) !== 0 }
+    get timeOffset() {
+        const offset = this.#part.bytes[this.#at + AT_MESSAGE_OFFSET]
+        return offset === NO_OFFSET ? null : offset
+    }
+
+    #told(bit) { return (this.#part.bytes[this.#at + AT_MESSAGE_BITS] & bit) !== 0 }
     #amount(bit, at) { return this.#told(bit) ? this.#part.view.getBigUint64(this.#at + at, true) : null }
 
-    get speed() { return this.#told(4) ? Number(this.#amount(4, 40)) / 100 : null }
-    get distance() { return this.#told(8) ? Number(this.#amount(8, 48)) / 16 : null }
-    get totalCycles() { return this.#told(16) ? whole(this.#amount(16, 56)) : null }
-    get accumulatedPower() { return this.#told(32) ? whole(this.#amount(32, 64)) : null }
+    get speed() { return this.#told(TOLD_SPEED) ? Number(this.#amount(TOLD_SPEED, AT_MESSAGE_SPEED)) / 100 : null }
+    get distance() { return this.#told(TOLD_DISTANCE) ? Number(this.#amount(TOLD_DISTANCE, AT_MESSAGE_DISTANCE)) / 16 : null }
+    get totalCycles() { return this.#told(TOLD_CYCLES) ? whole(this.#amount(TOLD_CYCLES, AT_MESSAGE_CYCLES)) : null }
+    get accumulatedPower() { return this.#told(TOLD_POWER) ? whole(this.#amount(TOLD_POWER, AT_MESSAGE_POWER)) : null }
 
     /* Where a record was made, in degrees; null where it doesn't say. */
     get position() {
@@ -136,7 +144,6 @@ function plain(value) {
     return value instanceof Uint8Array ? `0x${Array.from(value, byte => byte.toString(16).toUpperCase().padStart(2, "0")).join("")}` : value
 }
 
-const [DEFINITION, MESSAGE] = [2, 3]
 const MOST = 1 << 20 // So many bytes of definitions are kept, beside the current ones.
 const latin1 = new TextDecoder("latin1")
 
@@ -169,15 +176,17 @@ export class Walk {
     runs(bytes) {
         const view = new DataView(bytes.buffer, bytes.byteOffset, bytes.byteLength), found = []
         for (let at = 0; at < bytes.length;) {
-            const length = view.getUint32(at, true)
+            const length = view.getUint32(at + AT_LENGTH, true)
             let end = at + length
-            if (bytes[at + 4] === MESSAGE) {
-                const local = bytes[at + 6], current = this.#current.get(local)
-                while (end < bytes.length && bytes[end + 4] === MESSAGE && bytes[end + 6] === local) end += length
-                if (current?.number !== view.getBigUint64(at + 24, true)) throw new Error("gazhdor: a message without its definition")
+            if (bytes[at + AT_KIND] === MESSAGE) {
+                const local = bytes[at + AT_MESSAGE_LOCAL], current = this.#current.get(local)
+                while (end < bytes.length && bytes[end + AT_KIND] === MESSAGE && bytes[end + AT_MESSAGE_LOCAL] === local) end += length
+                const number = view.getBigUint64(at + AT_MESSAGE_DEFINITION, true)
+                if (current?.number !== number) throw new Error("gazhdor: a message without its definition")
                 if (current.definition !== null) found.push({ definition: current.definition, begin: at, end, length })
-            } else if (bytes[at + 4] === DEFINITION) {
-                this.#current.set(bytes[at + 5], { number: view.getBigUint64(at + 24, true), definition: this.#definition(bytes.subarray(at, end)) })
+            } else if (bytes[at + AT_KIND] === DEFINITION) {
+                const number = view.getBigUint64(at + AT_DEFINITION_NUMBER, true)
+                this.#current.set(bytes[at + AT_DEFINITION_LOCAL], { number, definition: this.#definition(bytes.subarray(at, end)) })
             }
             at = end
         }
@@ -196,7 +205,8 @@ export class Walk {
     }
 
     #definition(block) {
-        const same = latin1.decode(block.subarray(32)) // What comes before says nothing of messages but their length, which their fields have.
+        // What comes before says nothing of messages but their length, which their fields have.
+        const same = latin1.decode(block.subarray(AT_DEFINITION_MESSAGE))
         let found = this.#known.get(same)
         if (found === undefined) {
             this.#room -= same.length

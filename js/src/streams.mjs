@@ -2,9 +2,12 @@
 import { FitError, OutOfMemory, judge } from "./answers.mjs"
 import { copied, decoded } from "./core.mjs"
 import { Walk } from "./messages.mjs"
+import { STREAM_CHECK, STREAM_MESSAGES, STREAM_SHOW, STREAM_TABLE, STREAM_TO_CSV } from "./numbers.mjs"
 import { bytesOf } from "./sources.mjs"
 
-const KINDS = { check: 0, show: 1, table: 2, toCsv: 3, blocks: 4, messages: 4 }
+const KINDS = {
+    check: STREAM_CHECK, show: STREAM_SHOW, table: STREAM_TABLE, toCsv: STREAM_TO_CSV, blocks: STREAM_MESSAGES, messages: STREAM_MESSAGES,
+}
 
 /* A stream that nobody closed is closed once nothing uses it any more. Where the module traps there, the next call says so. */
 const forgotten = new FinalizationRegistry(({ core, at }) => {

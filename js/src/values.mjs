@@ -1,6 +1,11 @@
 /* What the items of a field stand for, and the field as its definition has it: an entry of docs/BLOCKS.md. */
 
-import { BYTES, FLOAT, SIGNED, STRING } from "./numbers.mjs"
+import {
+    AT_DEFINITION_BITS, AT_DEFINITION_DEVELOPERS, AT_DEFINITION_FIELDS, AT_DEFINITION_MESSAGE, AT_DEFINITION_NAME,
+    AT_ENTRY_BASE_TYPE, AT_ENTRY_COUNT, AT_ENTRY_DECIMALS, AT_ENTRY_DEVELOPER, AT_ENTRY_INDEX, AT_ENTRY_INVALID,
+    AT_ENTRY_ITEMS, AT_ENTRY_KIND, AT_ENTRY_LENGTH, AT_ENTRY_NAME, AT_ENTRY_NUMBER, AT_ENTRY_OFFSET, AT_ENTRY_SCALE,
+    AT_ENTRY_UNIT, AT_ENTRY_WIDTH, BYTES, FLOAT, IS_COUNTED, SIGNED, STRING,
+} from "./numbers.mjs"
 
 const utf8 = new TextDecoder("utf-8", { ignoreBOM: true })
 
@@ -53,21 +58,21 @@ function bitsReader(width) {
  * developer data index of a developer field, else null. */
 export class Entry {
     constructor(view, bytes, at) {
-        const size = view.getUint16(at, true)
-        this.number = bytes[at + 4]
-        this.index = bytes[at + 5] === 1 ? bytes[at + 6] : null
-        this.baseType = bytes[at + 7]
-        this.kind = bytes[at + 8]
-        this.width = bytes[at + 9]
-        this.count = bytes[at + 10]
-        this.decimals = bytes[at + 11]
-        this.begins = view.getUint32(at + 12, true)
-        this.scale = view.getUint32(at + 16, true)
-        this.offset = view.getUint32(at + 20, true)
-        const invalid = view.getBigUint64(at + 24, true)
+        const size = view.getUint16(at + AT_ENTRY_LENGTH, true)
+        this.number = bytes[at + AT_ENTRY_NUMBER]
+        this.index = bytes[at + AT_ENTRY_DEVELOPER] === 1 ? bytes[at + AT_ENTRY_INDEX] : null
+        this.baseType = bytes[at + AT_ENTRY_BASE_TYPE]
+        this.kind = bytes[at + AT_ENTRY_KIND]
+        this.width = bytes[at + AT_ENTRY_WIDTH]
+        this.count = bytes[at + AT_ENTRY_COUNT]
+        this.decimals = bytes[at + AT_ENTRY_DECIMALS]
+        this.begins = view.getUint32(at + AT_ENTRY_ITEMS, true)
+        this.scale = view.getUint32(at + AT_ENTRY_SCALE, true)
+        this.offset = view.getUint32(at + AT_ENTRY_OFFSET, true)
+        const invalid = view.getBigUint64(at + AT_ENTRY_INVALID, true)
         this.invalid = this.width === 8 ? invalid : Number(invalid)
-        this.name = textAt(bytes, at + 32)
-        this.unit = textAt(bytes, at + view.getUint16(at + 2, true))
+        this.name = textAt(bytes, at + AT_ENTRY_NAME)
+        this.unit = textAt(bytes, at + view.getUint16(at + AT_ENTRY_UNIT, true))
         this.size = size
         this.bits = bitsReader(this.width)
         this.item = itemReader(this)
@@ -126,16 +131,22 @@ export function exactOf(entry, part, at) {
 
 const HIDING = /^(\.|timestamp$|field_\d+$|dev_\d+_\d+$)/
 
+/* Where the first field is described in the block of a definition, after the name of its message. */
+export function firstEntry(bytes, at = 0) {
+    const name = at + AT_DEFINITION_NAME
+    return name + ((bytes.subarray(name).indexOf(0) + 8) & ~7)
+}
+
 /* What the messages of a definition have: the number and name of the message, and its fields, each by its keys. */
 export class Definition {
     constructor(bytes) {
         const view = new DataView(bytes.buffer, bytes.byteOffset, bytes.byteLength)
-        const count = view.getUint16(34, true) + view.getUint16(36, true)
-        this.number = view.getUint16(32, true)
-        this.isCounted = (view.getUint16(38, true) & 2) !== 0
-        this.name = textAt(bytes, 40)
+        const count = view.getUint16(AT_DEFINITION_FIELDS, true) + view.getUint16(AT_DEFINITION_DEVELOPERS, true)
+        this.number = view.getUint16(AT_DEFINITION_MESSAGE, true)
+        this.isCounted = (view.getUint16(AT_DEFINITION_BITS, true) & IS_COUNTED) !== 0
+        this.name = textAt(bytes, AT_DEFINITION_NAME)
         this.entries = []
-        let at = 40 + ((bytes.subarray(40).indexOf(0) + 8) & ~7)
+        let at = firstEntry(bytes)
         for (let k = 0; k < count; k++) {
             this.entries.push(new Entry(view, bytes, at))
             at += this.entries[k].size

@@ -7,16 +7,17 @@ import re
 from decimal import Decimal
 from typing import Dict, Iterator, List, NamedTuple, Optional, Tuple
 
+from ._bases import BASES, BYTE, base_named
+from ._natives import DESCRIPTION
+from ._numbers import FLOAT, SIGNED
 from ._profile import Info, name_of, info_of
 
 _MOST = 1 << 26  # A text of more characters gets no advice: it takes some seconds to find the place.
 _NO_INFO = Info("", "", 1, 0, "")
-_BYTE, _STRING, _DESCRIPTION = 13, 7, 206
+_STRING = base_named("string").code
 # Of the base types that are whole numbers the width, whether they have a sign, and the invalid number.
-_WHOLE = {0: (1, False, 0xFF), 1: (1, True, 0x7F), 2: (1, False, 0xFF), 10: (1, False, 0)}
-_WHOLE.update({0x83: (2, True, 0x7FFF), 0x84: (2, False, 0xFFFF), 0x85: (4, True, 0x7FFFFFFF), 0x86: (4, False, 0xFFFFFFFF)})
-_WHOLE.update({0x8B: (2, False, 0), 0x8C: (4, False, 0), 0x8E: (8, True, 2**63 - 1), 0x8F: (8, False, 2**64 - 1), 0x90: (8, False, 0)})
-_FLOATS = {0x88: 4, 0x89: 8}
+_WHOLE = {base.code: (base.width, base.kind == SIGNED, base.invalid) for base in BASES if base.kind <= SIGNED}
+_FLOATS = {base.code: base.width for base in BASES if base.kind == FLOAT}
 # Of each row what its cells may be, from the second on, where that needs nothing of the rows before.
 _HEAD = "row,a,b,c,d,e,f"
 _CELLS = {
@@ -56,7 +57,7 @@ class _Rows:
             self.next = ["fdef"] * int(cells[5]) + ["ddef"] * int(cells[6] or 0)
         elif kind in ("fdef", "ddef"):
             number, size, last = map(int, cells[1:4])
-            code = last if kind == "fdef" else self.described.get((last, number), (_BYTE, "", ""))[0]
+            code = last if kind == "fdef" else self.described.get((last, number), (BYTE.code, "", ""))[0]
             self.fields[self.local].append(_Field(number, size, code, None if kind == "fdef" else last))
             self.next.pop(0)
         elif kind == "data":
@@ -74,7 +75,7 @@ class _Rows:
 
     def says_nothing(self) -> bool:
         """Whether the fields of the message at hand say nothing of later rows."""
-        return len(self.left) > 1 and self.numbers[self.local] != _DESCRIPTION
+        return len(self.left) > 1 and self.numbers[self.local] != DESCRIPTION
 
     def skip(self, told: Iterator[List[str]]) -> int:
         """Passes by the rows of the fields, and returns how many they are."""
@@ -94,7 +95,7 @@ class _Rows:
 
     def _describe(self) -> None:
         told = self.values
-        if self.numbers[self.local] == _DESCRIPTION and all(told.get(field, "").isdecimal() for field in (0, 1, 2)):
+        if self.numbers[self.local] == DESCRIPTION and all(told.get(field, "").isdecimal() for field in (0, 1, 2)):
             self.described[int(told[0]), int(told[1])] = int(told[2]), told.get(3, ""), told.get(8, "")
 
 

@@ -2,9 +2,8 @@
 import ctypes
 from typing import Optional, Tuple
 
+from ._numbers import BLOCK, GOOD, REFUSED, TEXT, TRUNCATED
 from ._reasons import BLOCK_REASONS, REASONS
-
-GOOD, REFUSED, TRUNCATED, NO_MEMORY, TEXT, UNWRITABLE, CLOSED, NO_KIND, BLOCK = range(9)
 
 
 class Answer(ctypes.Structure):

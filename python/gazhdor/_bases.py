@@ -22,10 +22,10 @@ class Base(NamedTuple):
         return (0, 2**bits - 2) if self.invalid else (1, 2**bits - 1)
 
 
-ALL = tuple(Base(*row) for row in BASE_TYPES)
-BYTE = next(base for base in ALL if base.name == "byte")
-_BY_NAME: Dict[str, Base] = {base.name: base for base in ALL}
-_BY_CODE: Dict[int, Base] = {base.code: base for base in ALL}
+BASES = tuple(Base(*row) for row in BASE_TYPES)
+BYTE = next(base for base in BASES if base.name == "byte")
+_BY_NAME: Dict[str, Base] = {base.name: base for base in BASES}
+_BY_CODE: Dict[int, Base] = {base.code: base for base in BASES}
 
 
 def base_of(code: int) -> Base:

@@ -4,6 +4,7 @@ from typing import Any, Callable, Dict, Iterable, Iterator, Optional, Tuple, Uni
 
 from ._names import Names
 from ._natives import DESCRIPTION, Natives
+from ._numbers import AT_DEFINITION_MESSAGE, AT_HEADER_REST, AT_KIND, AT_MESSAGE_LOCAL, DEFINITION, FILE_HEADER, MESSAGE
 from ._profile import Kind as Kind
 from ._profile import number_of, see_messages
 from ._values import Definition, told
@@ -11,10 +12,9 @@ from .errors import StreamBroken
 
 Only = Union[None, str, int, Iterable[Kind]]
 
-HEADER, DEFINITION, MESSAGE = 1, 2, 3
 _MOST = 1 << 20  # So many bytes of definitions are kept, beside the current ones.
 # Each block has so many bytes, but for that of the end of a file, which says nothing here.
-_FRONT, _LEAST = struct.Struct("<IBBB17xQ").unpack_from, 32
+_FRONT, _LEAST = struct.Struct("<IBBB17xQ").unpack_from, AT_HEADER_REST
 _NUMBER = struct.Struct("<H").unpack_from
 _NOTHING = None, None
 
@@ -31,7 +31,7 @@ def _count(blocks: bytes, first: int, length: int, local: int) -> int:
     while True:
         at = first + count * length
         end = at + piece * length
-        kinds, locals_ = blocks[at + 4 : end : length], blocks[at + 6 : end : length]
+        kinds, locals_ = blocks[at + AT_KIND : end : length], blocks[at + AT_MESSAGE_LOCAL : end : length]
         same = min(len(kinds) - len(kinds.lstrip(kind)), len(locals_) - len(locals_.lstrip(local_type)))
         count += same
         if same < piece:
@@ -73,7 +73,7 @@ class Walk:
             if kind == MESSAGE:
                 begin, count = at, 1
                 at += length
-                if at < end and blocks[at + 6] == second and blocks[at + 4] == MESSAGE:
+                if at < end and blocks[at + AT_MESSAGE_LOCAL] == second and blocks[at + AT_KIND] == MESSAGE:
                     count = _count(blocks, begin, length, second)
                     at = begin + count * length
                 definition, known = self._current.get(second, _NOTHING)
@@ -87,12 +87,12 @@ class Walk:
                 continue
             if kind == DEFINITION:
                 self._define(first, which, blocks[at : at + length])
-            elif kind == HEADER:
+            elif kind == FILE_HEADER:
                 self._natives, self._describing = Natives(), {}
             at += length
 
     def _define(self, local: int, which: int, data: bytes) -> None:
-        number: int = _NUMBER(data, 32)[0]
+        number: int = _NUMBER(data, AT_DEFINITION_MESSAGE)[0]
         self._current[local] = self._definition(number, data), which
         self._describing.pop(local, None)
         if number == DESCRIPTION:
@@ -102,8 +102,8 @@ class Walk:
         if not self._wants(number):
             return None
         natives = self._natives.of(data)
-        # What comes before place 32 says nothing of messages but their length, which is that of their fields.
-        same = data[32:], tuple(natives.items())
+        # What comes before the number of the message says nothing of messages but their length, which is that of their fields.
+        same = data[AT_DEFINITION_MESSAGE:], tuple(natives.items())
         if same not in self._known:
             self._room -= len(data)
             if self._room < 0:

@@ -3,16 +3,18 @@ import datetime
 import re
 from typing import Dict, Iterable, Iterator, List, NamedTuple, Optional, Set, Tuple
 
+from ._bases import base_named
 from ._events import Everything, FileEnd, FileHeader
 from ._items import Packer
 from ._messages import Message
 from ._names import EXTRA
+from ._numbers import AT_MESSAGE_BITS, AT_MESSAGE_OFFSET, NO_TIME, TOLD_HEADER_TIME, TOLD_TIME
 from ._profile import UnknownName, number_of, profile
 from ._sinks import Sink
 from ._sources import Source
 from ._streams import messages
 from ._summary import RECORD, Anew
-from ._times import EPOCH, SYSTEM_TIMES
+from ._times import EPOCH, HEADER_TIME, OWN_TIME, SYSTEM_TIMES
 from ._values import Definition, Entry
 from ._writer import Writer
 from .errors import WrongValue
@@ -22,8 +24,7 @@ _NAMED = re.compile(r"(^|[^a-z])(position|pos|location|gps|geo|lat|latitude|long
 _MEASURED = {"semicircles", "semicircle", "deg", "degree", "degrees", "\u00b0"}
 _FILE_ID = (0, 49)  # file_id, file_creator
 _DISTANCE = 5
-_NO_TIME = 0xFFFFFFFF
-_SINT32 = 0x85
+_SINT32 = base_named("sint32").code
 
 
 class Change(NamedTuple):
@@ -112,11 +113,12 @@ class _Editor:
         shift = self._change.shift
         for pack in times:
             block[pack.begins : pack.begins + 4] = _moved(block[pack.begins : pack.begins + 4], shift, pack.label)
-        if block[5] & 2 and int.from_bytes(block[32:36], "little") >= SYSTEM_TIMES:
-            block[7] = block[7] + shift & 31
-            block[32:36] = _moved(block[32:36], shift, "timestamp")
-        if block[5] & 1:
-            block[12:16] = _moved(block[12:16], shift, "timestamp")
+        told = block[AT_MESSAGE_BITS]
+        if told & TOLD_HEADER_TIME and int.from_bytes(block[HEADER_TIME], "little") >= SYSTEM_TIMES:
+            block[AT_MESSAGE_OFFSET] = block[AT_MESSAGE_OFFSET] + shift & 31
+            block[HEADER_TIME] = _moved(block[HEADER_TIME], shift, "timestamp")
+        if told & TOLD_TIME:
+            block[OWN_TIME] = _moved(block[OWN_TIME], shift, "timestamp")
 
     def see_met(self) -> None:
         """Raises UnknownName for a word that names nothing that the file, the profile or EXTRA has."""
@@ -131,10 +133,10 @@ class _Editor:
 def _moved(item: bytearray, shift: int, field: str) -> bytes:
     """A time, moved; the device's own time, and no time, stay."""
     time = int.from_bytes(item, "little")
-    if time == _NO_TIME or time < SYSTEM_TIMES:
+    if time == NO_TIME or time < SYSTEM_TIMES:
         return bytes(item)
-    if not SYSTEM_TIMES <= time + shift < _NO_TIME:
-        raise WrongValue(f"{time} seconds, moved by {shift}, are no time any more", field, time + shift, SYSTEM_TIMES, _NO_TIME - 1)
+    if not SYSTEM_TIMES <= time + shift < NO_TIME:
+        raise WrongValue(f"{time} seconds, moved by {shift}, are no time any more", field, time + shift, SYSTEM_TIMES, NO_TIME - 1)
     return (time + shift).to_bytes(4, "little")
 
 

@@ -2,11 +2,31 @@
 import struct
 from typing import Any, Iterator, Optional, Tuple, Union
 
-from ._blocks import DEFINITION, HEADER, MESSAGE, Walk
+from ._blocks import Walk
 from ._layout import KINDS, FieldDefinition, fields_of_block
 from ._messages import Message
 from ._names import Names
 from ._natives import Natives
+from ._numbers import (
+    AT_DEFINITION_ARCHITECTURE,
+    AT_DEFINITION_BITS,
+    AT_DEFINITION_LOCAL,
+    AT_DEFINITION_NUMBER,
+    AT_DEFINITION_RESERVED,
+    AT_FILE,
+    AT_HEADER_DATA,
+    AT_HEADER_PROFILE,
+    AT_HEADER_PROTOCOL,
+    AT_HEADER_REST,
+    AT_HEADER_SIZE,
+    AT_HEADER_SUM,
+    AT_PLACE,
+    BIG_ENDIAN,
+    DEFINITION,
+    FILE_HEADER,
+    MESSAGE,
+    SAYS_DEVELOPERS,
+)
 from ._values import Definition
 from .errors import StreamBroken
 
@@ -25,12 +45,12 @@ class Event:
 
     @property
     def file(self) -> int:
-        number: int = _FILE(self._block, 8)[0]
+        number: int = _FILE(self._block, AT_FILE)[0]
         return number
 
     @property
     def place(self) -> int:
-        place: int = _PLACE(self._block, 16)[0]
+        place: int = _PLACE(self._block, AT_PLACE)[0]
         return place
 
     def __eq__(self, other: object) -> bool:
@@ -61,29 +81,29 @@ class FileHeader(Event):
 
     @property
     def size(self) -> int:
-        return self._block[5]
+        return self._block[AT_HEADER_SIZE]
 
     @property
     def protocol(self) -> int:
-        return self._block[6]
+        return self._block[AT_HEADER_PROTOCOL]
 
     @property
     def profile(self) -> int:
-        version: int = _PROFILE(self._block, 24)[0]
+        version: int = _PROFILE(self._block, AT_HEADER_PROFILE)[0]
         return version
 
     @property
     def checksum(self) -> str:
-        return KINDS[self._block[7]]
+        return KINDS[self._block[AT_HEADER_SUM]]
 
     @property
     def data(self) -> int:
-        size: int = _DATA(self._block, 12)[0]
+        size: int = _DATA(self._block, AT_HEADER_DATA)[0]
         return size
 
     @property
     def more(self) -> bytes:
-        return self._block[32 : 32 + max(0, self.size - 14)]
+        return self._block[AT_HEADER_REST : AT_HEADER_REST + max(0, self.size - 14)]
 
 
 class DefinitionMessage(Event):
@@ -114,19 +134,19 @@ class DefinitionMessage(Event):
 
     @property
     def local(self) -> int:
-        return self._block[5]
+        return self._block[AT_DEFINITION_LOCAL]
 
     @property
     def big(self) -> bool:
-        return self._block[6] == 1
+        return self._block[AT_DEFINITION_ARCHITECTURE] == BIG_ENDIAN
 
     @property
     def reserved(self) -> int:
-        return self._block[7]
+        return self._block[AT_DEFINITION_RESERVED]
 
     @property
     def says_developers(self) -> bool:
-        return self._block[38] & 1 == 1
+        return self._block[AT_DEFINITION_BITS] & SAYS_DEVELOPERS != 0
 
     @property
     def fields(self) -> Tuple[FieldDefinition, ...]:
@@ -165,11 +185,11 @@ class Events(Walk):
                     self._natives.learn(self._describing[local], block)
                 yield Message(block, definition)
             elif kind == DEFINITION:
-                self._define(first, _PLACE(block, 24)[0], block)
+                self._define(first, _PLACE(block, AT_DEFINITION_NUMBER)[0], block)
                 definition = current[first][0]
                 assert definition is not None
                 yield DefinitionMessage(block, definition)
-            elif kind == HEADER:
+            elif kind == FILE_HEADER:
                 self._natives, self._describing = Natives(), {}
                 yield FileHeader(block)
             else:

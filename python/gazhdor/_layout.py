@@ -4,16 +4,38 @@ from typing import Dict, Iterable, List, NamedTuple, Optional, Tuple
 
 from ._bases import Base, base_of
 from ._names import Names
-from ._numbers import BYTES
+from ._numbers import (
+    AT_DEFINITION_FIELDS,
+    AT_DEFINITION_MESSAGE,
+    AT_DEFINITION_MESSAGE_LENGTH,
+    AT_DEFINITION_NAME,
+    AT_ENTRY_NAME,
+    AT_ENTRY_UNIT,
+    AT_HEADER_REST,
+    AT_KIND,
+    AT_MESSAGE_ITEMS,
+    BYTES,
+    DEFINITION,
+    DEFINITION_FORMAT,
+    ENTRY_FORMAT,
+    FILE_END,
+    FILE_HEADER,
+    HEADER_FORMAT,
+    LEAST_BLOCK,
+    MESSAGE,
+    MESSAGE_FORMAT,
+    NO_OFFSET,
+    NO_TIME,
+    SAYS_DEVELOPERS,
+)
 from ._profile import Info, info_of, name_of
-from ._values import Definition, Key, told
+from ._values import Definition, Key, first_entry, told
 
-_DEFINITION, _HEADER = struct.Struct("<IBBBBIIQQHHHH"), struct.Struct("<IBBBBIIQQ")
-_ENTRY = struct.Struct("<HHBBBBBBBBIIIQ")
-_MESSAGE = struct.Struct("<IBBBBIIQQQ")
-_NO_TIME = 0xFFFFFFFF
+_HEADER, _DEFINITION = struct.Struct(HEADER_FORMAT), struct.Struct(DEFINITION_FORMAT)
+_ENTRY, _MESSAGE = struct.Struct(ENTRY_FORMAT), struct.Struct(MESSAGE_FORMAT)
+_COUNTS = struct.Struct("<HH").unpack_from  # of fields, and of developer fields
 _NO_INFO = Info("", "", 1, 0, "")
-END = struct.pack("<IBBBBIIQ", 24, 4, 0, 0, 0, 0, 0, 0)
+END = struct.pack("<IB", LEAST_BLOCK, FILE_END).ljust(LEAST_BLOCK, b"\0")
 KINDS = ("none", "zeros", "there")
 _MOST_KNOWN = 1 << 20  # So many bytes of definitions are kept.
 _USUAL = 128  # An entry with a name and a unit has fewer bytes, unless somebody wants it to have many.
@@ -67,7 +89,7 @@ def _text(words: str) -> bytes:
 def header_block(size: int, protocol: int, profile: int, kind: int, more: bytes) -> bytes:
     """The block of a header."""
     data = filled(more)
-    return _HEADER.pack(32 + len(data), 1, size, protocol, kind, 0, 0, 0, profile) + data
+    return _HEADER.pack(AT_HEADER_REST + len(data), FILE_HEADER, size, protocol, kind, 0, 0, 0, profile) + data
 
 
 def form_of(message: int, field: FieldDefinition, info: Optional[Info] = None) -> Form:
@@ -79,7 +101,8 @@ def form_of(message: int, field: FieldDefinition, info: Optional[Info] = None) -
 def _entry(form: Form, begins: int) -> bytes:
     field, shape, info = form.field, form.field.shape, form.info
     name, unit = _text(info.name), _text(info.unit)
-    numbers = 32 + len(name) + len(unit), 32 + len(name), field.number, field.developer is not None, field.developer or 0, field.base
+    unit_at = AT_ENTRY_NAME + len(name)
+    numbers = unit_at + len(unit), unit_at, field.number, field.developer is not None, field.developer or 0, field.base
     items = shape.kind, shape.width, field.size // shape.width, 0, begins, info.scale, info.offset, shape.invalid
     return _ENTRY.pack(*numbers, *items) + name + unit
 
@@ -87,15 +110,15 @@ def _entry(form: Form, begins: int) -> bytes:
 def definition_block(message: int, forms: Iterable[Form], kept: Kept = Kept()) -> bytes:
     """The block of a definition message."""
     entries: List[bytes] = []
-    begins, developers = 40, 0
+    begins, developers = AT_MESSAGE_ITEMS, 0
     for form in forms:
         entries.append(_entry(form, begins))
         begins += form.field.size + -form.field.size % 8
         developers += form.field.developer is not None
     rest = _text(name_of(message) or "") + b"".join(entries)
     says = developers > 0 if kept.says_developers is None else kept.says_developers
-    counts = message, len(entries) - developers, developers, says
-    return _DEFINITION.pack(40 + len(rest), 2, kept.local, kept.big, kept.reserved, 0, begins, 0, 0, *counts) + rest
+    counts = message, len(entries) - developers, developers, SAYS_DEVELOPERS if says else 0
+    return _DEFINITION.pack(AT_DEFINITION_NAME + len(rest), DEFINITION, kept.local, kept.big, kept.reserved, 0, begins, 0, 0, *counts) + rest
 
 
 class Layouts:
@@ -108,13 +131,14 @@ class Layouts:
 
     def of(self, block: bytes) -> Definition:
         """The definition of a block. It may be that of another local message type or architecture."""
-        known = self._known.get(block[32:])
+        said = block[AT_DEFINITION_MESSAGE:]
+        known = self._known.get(said)
         if known is None:
             self._room -= len(block)
             if self._room < 0:
                 self._known.clear()
                 self._room = _MOST_KNOWN - len(block)
-            known = self._known[block[32:]] = Definition(block, told(self._names, int.from_bytes(block[32:34], "little"), {}))
+            known = self._known[said] = Definition(block, told(self._names, int.from_bytes(said[:2], "little"), {}))
         return known
 
 
@@ -122,7 +146,7 @@ def empty_message(definition: Definition, local: int) -> bytearray:
     """The block of a message whose fields have no values."""
     length = message_length(definition)
     block = bytearray(length)
-    _MESSAGE.pack_into(block, 0, length, 3, 0, local, 0xFF, 0, _NO_TIME, 0, 0, _NO_TIME)
+    _MESSAGE.pack_into(block, 0, length, MESSAGE, 0, local, NO_OFFSET, 0, NO_TIME, 0, 0, NO_TIME)
     for entry in definition.entries:
         size = entry.count * entry.width
         none = b"\xff" * size if entry.kind == BYTES else entry.invalid.to_bytes(entry.width, "little") * entry.count
@@ -132,30 +156,30 @@ def empty_message(definition: Definition, local: int) -> bytearray:
 
 def message_length(definition: Definition) -> int:
     """How long the blocks of its messages are."""
-    length: int = struct.unpack_from("<I", definition.data, 12)[0]
+    length: int = struct.unpack_from("<I", definition.data, AT_DEFINITION_MESSAGE_LENGTH)[0]
     return length
 
 
 def slim(data: bytes) -> bytes:
     """The block of a definition message, without names and units where these are so long that many such blocks would take much memory: no
     file is made of them."""
-    fields, developers = struct.unpack_from("<HH", data, 34)
+    fields, developers = _COUNTS(data, AT_DEFINITION_FIELDS)
     if len(data) <= 300 + _USUAL * (fields + developers):
         return data
-    at = 40 + (data.index(0, 40) - 40) // 8 * 8 + 8
+    at = first_entry(data)
     entries: List[bytes] = []
     for _ in range(fields + developers):
         length: int = struct.unpack_from("<H", data, at)[0]
-        entries.append(b"\x20\0" + data[at + 2 : at + 32])
+        entries.append(struct.pack("<H", AT_ENTRY_NAME) + data[at + AT_ENTRY_UNIT : at + AT_ENTRY_NAME])
         at += length
-    made = data[4:40] + bytes(8) + b"".join(entries)
-    return struct.pack("<I", 4 + len(made)) + made
+    made = data[AT_KIND:AT_DEFINITION_NAME] + bytes(8) + b"".join(entries)
+    return struct.pack("<I", AT_KIND + len(made)) + made
 
 
 def fields_of_block(data: bytes) -> Tuple[FieldDefinition, ...]:
     """The fields of the block of a definition message, the developer fields last."""
-    fields, developers = struct.unpack_from("<HH", data, 34)
-    at = 40 + (data.index(0, 40) - 40) // 8 * 8 + 8
+    fields, developers = _COUNTS(data, AT_DEFINITION_FIELDS)
+    at = first_entry(data)
     found = []
     for _ in range(fields + developers):
         length, number, developer, index, code, width, count = struct.unpack_from("<H2xBBBBxBB", data, at)

@@ -4,13 +4,13 @@ import struct
 from typing import Iterable, Iterator, List, Optional, Tuple, Union
 
 from ._layout import END
+from ._numbers import AT_PLACE, FILE_END
 from ._sources import Source, bytes_of
 from ._streams import each, found
 from ._writer import from_blocks
 from .errors import FitError, judge
 
 _FRONT = struct.Struct("<IB").unpack_from
-_KIND_OF_END = 4
 _MOST = 2**32 - 1  # the size of the largest data section
 
 
@@ -75,8 +75,8 @@ def _end_of_files(data: memoryview) -> int:
         at = 0
         while at < len(blocks):
             length, kind = _FRONT(blocks, at)
-            if kind == _KIND_OF_END:
-                end = int.from_bytes(blocks[at + 16 : at + 24], "little") + 2
+            if kind == FILE_END:
+                end = int.from_bytes(blocks[at + AT_PLACE : at + AT_PLACE + 8], "little") + 2
             at += length
     return end
 

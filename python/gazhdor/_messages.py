@@ -6,11 +6,30 @@ from typing import Any, Callable, Dict, Iterator, Mapping, NamedTuple, Optional,
 
 from ._blocks import Run
 from ._items import Packer, packers
+from ._numbers import (
+    AT_FILE,
+    AT_MESSAGE_BITS,
+    AT_MESSAGE_CYCLES,
+    AT_MESSAGE_DISTANCE,
+    AT_MESSAGE_HEADER_TIME,
+    AT_MESSAGE_LOCAL,
+    AT_MESSAGE_OFFSET,
+    AT_MESSAGE_POWER,
+    AT_MESSAGE_SPEED,
+    AT_MESSAGE_TIME,
+    AT_PLACE,
+    NO_OFFSET,
+    TOLD_CYCLES,
+    TOLD_DISTANCE,
+    TOLD_HEADER_TIME,
+    TOLD_POWER,
+    TOLD_SPEED,
+    TOLD_TIME,
+)
 from ._profile import UnknownName, fields_of
-from ._times import Time, when
+from ._times import HEADER_TIME, NO_TIME_BYTES, OWN_TIME, Time, when
 from ._values import Definition, Entry, Exact, Key, Number, Raw, Value, degrees, label, read_exact, read_raw
 
-_NO_TIME = b"\xff\xff\xff\xff"
 _FILE, _PLACE, _TIME = struct.Struct("<I").unpack_from, struct.Struct("<Q").unpack_from, struct.Struct("<I").unpack_from
 
 
@@ -23,9 +42,9 @@ def _time_of(entry: Entry, block: bytes) -> Optional[Time]:
 
 def _tell_time(block: bytearray, at: int) -> None:
     """Makes the time of a message that of its timestamp, or where that has none, that of its compressed header."""
-    time = block[at : at + 4] if block[at : at + 4] != _NO_TIME else block[32:36]
-    block[5] = block[5] & ~1 | (time != _NO_TIME)
-    block[12:16] = time
+    time = block[at : at + 4] if block[at : at + 4] != NO_TIME_BYTES else block[HEADER_TIME]
+    block[AT_MESSAGE_BITS] = block[AT_MESSAGE_BITS] & ~TOLD_TIME | (TOLD_TIME if time != NO_TIME_BYTES else 0)
+    block[OWN_TIME] = time
 
 
 class Position(NamedTuple):
@@ -280,68 +299,70 @@ class Message(Mapping[Key, Any]):
     @property
     def local(self) -> int:
         """The local message type, 0 to 15."""
-        return self._block[6]
+        return self._block[AT_MESSAGE_LOCAL]
 
     @property
     def file(self) -> int:
         """The number of the file in the chain, counted from 1."""
-        number: int = _FILE(self._block, 8)[0]
+        number: int = _FILE(self._block, AT_FILE)[0]
         return number
 
     @property
     def place(self) -> int:
         """The place of the message's first byte in the source, counted from 0."""
-        place: int = _PLACE(self._block, 16)[0]
+        place: int = _PLACE(self._block, AT_PLACE)[0]
         return place
 
     @property
     def time(self) -> Optional[Time]:
         """The time of the message, as `when` has it: that of field 253 where it is valid, else that of a compressed timestamp header;
         None where it has none."""
-        return when(_TIME(self._block, 12)[0]) if self._block[5] & 1 else None
+        return when(self.seconds)
 
     @property
     def seconds(self) -> Optional[int]:
         """The time of the message in seconds since 1989-12-31T00:00:00 UTC, or since the device began; None where it has none."""
-        seconds: Optional[int] = _TIME(self._block, 12)[0] if self._block[5] & 1 else None
+        has_time = self._block[AT_MESSAGE_BITS] & TOLD_TIME
+        seconds: Optional[int] = _TIME(self._block, AT_MESSAGE_TIME)[0] if has_time else None
         return seconds
 
     @property
     def header_time(self) -> Optional[Time]:
         """The time that a compressed timestamp header gives, as `when` has it, or None."""
-        return when(_PLACE(self._block, 32)[0]) if self._block[5] & 2 else None
+        has_time = self._block[AT_MESSAGE_BITS] & TOLD_HEADER_TIME
+        return when(_PLACE(self._block, AT_MESSAGE_HEADER_TIME)[0]) if has_time else None
 
     @property
     def time_offset(self) -> Optional[int]:
         """The time offset of a compressed timestamp header, 0 to 31; None where the header is a normal one."""
-        offset = self._block[7]
-        return None if offset == 0xFF else offset
+        offset = self._block[AT_MESSAGE_OFFSET]
+        return None if offset == NO_OFFSET else offset
 
     def _amount(self, bit: int, at: int) -> Optional[int]:
-        amount: int = _PLACE(self._block, at)[0] if self._block[5] & bit else None
+        amount: int = _PLACE(self._block, at)[0] if self._block[AT_MESSAGE_BITS] & bit else None
         return amount
 
     @property
     def speed(self) -> Optional[float]:
         """Metres a second, of a record with `compressed_speed_distance`; else None."""
-        amount = self._amount(4, 40)
+        amount = self._amount(TOLD_SPEED, AT_MESSAGE_SPEED)
         return None if amount is None else amount / 100
 
     @property
     def distance(self) -> Optional[float]:
         """Metres, accumulated over the file from `compressed_speed_distance`; None in a message without it."""
-        amount = self._amount(8, 48)
+        amount = self._amount(TOLD_DISTANCE, AT_MESSAGE_DISTANCE)
         return None if amount is None else amount / 16
 
     @property
     def total_cycles(self) -> Optional[int]:
         """Cycles, accumulated over the file; None in a message without them."""
-        return self._amount(16, 56)
+        return self._amount(TOLD_CYCLES, AT_MESSAGE_CYCLES)
 
     @property
     def accumulated_power(self) -> Optional[int]:
         """Watts, accumulated over the file; None in a message without it."""
-        return self._amount(32, 64)
+        return self._amount(TOLD_POWER, AT_MESSAGE_POWER)
 
     def __repr__(self) -> str:
         return f"<gazhdor.Message {self.name or self.number}: {self.as_dict()}>"

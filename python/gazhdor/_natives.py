@@ -1,7 +1,7 @@
 """The fields that developer fields stand for, as field description messages say it (FIT protocol, "Developer Fields")."""
 from typing import Dict, Optional, Tuple
 
-from ._numbers import SIGNED
+from ._numbers import AT_DEFINITION_MESSAGE, SIGNED
 from ._values import Definition, Developer, Entry, developers
 
 DESCRIPTION, DEVELOPER_DATA = OF_DEVELOPERS = 206, 207
@@ -41,6 +41,6 @@ class Natives:
         """The fields that developer fields of a definition stand for, by its block."""
         if not self._told:
             return {}
-        number = int.from_bytes(definition[32:34], "little")
+        number = int.from_bytes(definition[AT_DEFINITION_MESSAGE : AT_DEFINITION_MESSAGE + 2], "little")
         told = ((key, self._told.get(key)) for key in developers(definition))
         return {key: of[1] for key, of in told if of and of[0] in (None, number)}

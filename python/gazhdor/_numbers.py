@@ -99,6 +99,12 @@ NO_OFFSET = 255
 LEAST_BLOCK = 24
 LEAST_ENTRY = 48
 
+# The numbers of a block up to what has no length of its own, and of an entry, as `struct` packs them.
+HEADER_FORMAT = "<IBBBBIIQQ"
+DEFINITION_FORMAT = "<IBBBBIIQQHHHH"
+MESSAGE_FORMAT = "<IBBBBIIQQQQQQQ"
+ENTRY_FORMAT = "<HHBBBBBBBBIIIQ"
+
 # What a call found.
 GOOD = 0
 REFUSED = 1

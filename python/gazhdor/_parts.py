@@ -5,7 +5,18 @@ from typing import Any, Dict, Iterable, Iterator, List, NamedTuple, Optional, Tu
 
 from ._blocks import Walk
 from ._names import Names
-from ._numbers import FLOAT
+from ._numbers import (
+    AT_FILE,
+    AT_MESSAGE_CYCLES,
+    AT_MESSAGE_DISTANCE,
+    AT_MESSAGE_LOCAL,
+    AT_MESSAGE_POWER,
+    AT_MESSAGE_SPEED,
+    AT_MESSAGE_TIME,
+    AT_PLACE,
+    FLOAT,
+    NO_TIME,
+)
 from ._profile import Kind, see_fields
 from ._sources import Source
 from ._streams import each
@@ -14,7 +25,6 @@ from ._values import Definition, Entry, Key, as_value, degrees, whole_number
 from .errors import FitError, TooManyCells
 
 TIME = "timestamp"
-NO_TIME = 0xFFFFFFFF
 _BATCH = 1 << 18  # At least that many bytes of blocks are taken at once.
 _FEW_CELLS, _MOST_EMPTY = 1 << 22, 16
 _FEW_DEFINITIONS = 16
@@ -31,10 +41,19 @@ class Cell(NamedTuple):
 
 
 # What a message tells of itself, by the names of its attributes: where it stands in each block, and in those that have counters.
-_SECONDS = whole_number(12, 4)
-_OWN = {".file": whole_number(8, 4), ".place": whole_number(16, 8), ".local": whole_number(6, 1), ".seconds": _SECONDS}
-_COUNTED = {".speed": whole_number(40, 8, 100), ".distance": whole_number(48, 8, 16)}
-_COUNTED.update({".total_cycles": whole_number(56, 8), ".accumulated_power": whole_number(64, 8)})
+_SECONDS = whole_number(AT_MESSAGE_TIME, 4)
+_OWN = {
+    ".file": whole_number(AT_FILE, 4),
+    ".place": whole_number(AT_PLACE, 8),
+    ".local": whole_number(AT_MESSAGE_LOCAL, 1),
+    ".seconds": _SECONDS,
+}
+_COUNTED = {
+    ".speed": whole_number(AT_MESSAGE_SPEED, 8, 100),
+    ".distance": whole_number(AT_MESSAGE_DISTANCE, 8, 16),
+    ".total_cycles": whole_number(AT_MESSAGE_CYCLES, 8),
+    ".accumulated_power": whole_number(AT_MESSAGE_POWER, 8),
+}
 _TIMES = {TIME: Cell(_SECONDS, DATE), ".time": Cell(_SECONDS, DATE)}
 _PLACES = {".latitude": 0, ".longitude": 1}
 _ATTRIBUTES = {*_OWN, *_COUNTED, *_PLACES, ".time"}
@@ -121,7 +140,7 @@ class Part:
 
     @property
     def has_times(self) -> bool:
-        return set(self.items(12, "I")) != {NO_TIME}
+        return set(self.items(AT_MESSAGE_TIME, "I")) != {NO_TIME}
 
     def values(self, cell: Cell) -> List[Any]:
         """What a column has of its messages."""

@@ -12,6 +12,7 @@ from ._events import Events, Everything
 from ._library import HAS_STREAMS, Opened, check, exact, library, text_of
 from ._messages import Message, messages_of
 from ._names import Told, names_of
+from ._numbers import STREAM_CHECK, STREAM_MESSAGES, STREAM_SHOW, STREAM_TABLE, STREAM_TO_CSV
 from ._sources import Source, bytes_of, go_back, opened, pieces, place_of
 from .errors import FitError, StreamBroken, judge, judged
 
@@ -20,7 +21,14 @@ if TYPE_CHECKING:
 
 Made = TypeVar("Made", str, bytes, List[Message])
 
-_KINDS = {"check": 0, "show": 1, "table": 2, "to_csv": 3, "blocks": 4, "messages": 4}
+_KINDS = {
+    "check": STREAM_CHECK,
+    "show": STREAM_SHOW,
+    "table": STREAM_TABLE,
+    "to_csv": STREAM_TO_CSV,
+    "blocks": STREAM_MESSAGES,
+    "messages": STREAM_MESSAGES,
+}
 _WHOLE = {"show": library.gazhdor_show, "table": library.gazhdor_table, "to_csv": library.gazhdor_to_csv, "blocks": library.gazhdor_messages}
 
 

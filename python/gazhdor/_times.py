@@ -2,9 +2,15 @@
 import datetime
 from typing import Optional, Union, overload
 
+from ._numbers import AT_MESSAGE_HEADER_TIME, AT_MESSAGE_TIME, NO_TIME
+
 Time = Union[datetime.datetime, str]
 
 EPOCH = datetime.datetime(1989, 12, 31, tzinfo=datetime.timezone.utc)
+# Where the block of a message has its time, and that of its compressed header; and what stands there for none.
+OWN_TIME = slice(AT_MESSAGE_TIME, AT_MESSAGE_TIME + 4)
+HEADER_TIME = slice(AT_MESSAGE_HEADER_TIME, AT_MESSAGE_HEADER_TIME + 4)
+NO_TIME_BYTES = NO_TIME.to_bytes(4, "little")
 SYSTEM_TIMES = 0x10000000  # A time below is the device's own, which didn't know the time of day.
 
 

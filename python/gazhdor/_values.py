@@ -4,7 +4,23 @@ from decimal import Decimal
 from typing import Any, Callable, Dict, List, Mapping, NamedTuple, Optional, Tuple, Union, overload
 
 from ._names import RESERVED, Named, Names
-from ._numbers import BYTES, FLOAT, SIGNED, STRING, UNSIGNED
+from ._numbers import (
+    AT_DEFINITION_FIELDS,
+    AT_DEFINITION_MESSAGE,
+    AT_DEFINITION_NAME,
+    AT_ENTRY_DEVELOPER,
+    AT_ENTRY_INDEX,
+    AT_ENTRY_NAME,
+    AT_ENTRY_NUMBER,
+    BYTES,
+    ENTRY_FORMAT,
+    FLOAT,
+    IS_COUNTED,
+    LEAST_ENTRY,
+    SIGNED,
+    STRING,
+    UNSIGNED,
+)
 from ._profile import fields_of
 
 Number = Union[int, float]
@@ -14,7 +30,7 @@ Raw = Union[int, bytes, Tuple[int, ...]]
 Key = Union[str, int, Tuple[int, int]]
 Reader = Callable[[bytes], Value]
 
-_ENTRY = struct.Struct("<HHBBBBBBBBIIIQ")
+_ENTRY = struct.Struct(ENTRY_FORMAT)
 _UNSIGNED = {1: "B", 2: "H", 4: "I", 8: "Q"}
 _FLOAT = {4: "f", 8: "d"}
 
@@ -53,7 +69,7 @@ class Entry:
         told = _ENTRY.unpack_from(data, at)
         self.size, unit_at, self.number, developer, index, self.base, self.kind, self.width, self.count = told[:9]
         self.decimals, self.begins, self.scale, self.offset, self.invalid = told[9:]
-        self.name, self.unit = text_at(data, at + 32), text_at(data, at + unit_at)
+        self.name, self.unit = text_at(data, at + AT_ENTRY_NAME), text_at(data, at + unit_at)
         self.index: Optional[int] = index if developer else None
         if named is not NOT_NAMED:
             self._rename(named)
@@ -235,7 +251,8 @@ def read_exact(entry: Entry, value: Value, raw: Raw) -> Exact:
 
 def whole_number(begins: int, width: int, scale: int = 1) -> Entry:
     """An entry for what each block has at a place, a whole number whose greatest stands for no value."""
-    return Entry(_ENTRY.pack(48, 40, 0, 0, 0, 0, UNSIGNED, width, 1, 0, begins, scale, 0, 256**width - 1) + bytes(16), 0)
+    own = LEAST_ENTRY, AT_ENTRY_NAME + 8, 0, 0, 0, 0, UNSIGNED, width, 1, 0, begins, scale, 0, 256**width - 1
+    return Entry(_ENTRY.pack(*own) + bytes(16), 0)
 
 
 Developer = Tuple[int, int]
@@ -265,18 +282,20 @@ def told(names: Optional[Names], message: int, natives: Mapping[Developer, int])
 
 def developers(data: bytes) -> List[Developer]:
     """The developer fields of a definition, by its block."""
-    fields, developer = struct.unpack_from("<HH", data, 34)
+    fields, developer = struct.unpack_from("<HH", data, AT_DEFINITION_FIELDS)
     found: List[Developer] = []
-    at = _first_entry(data)
+    at = first_entry(data)
     for _ in range(fields + developer if developer else 0):
-        if data[at + 5]:
-            found.append((data[at + 6], data[at + 4]))
+        if data[at + AT_ENTRY_DEVELOPER]:
+            found.append((data[at + AT_ENTRY_INDEX], data[at + AT_ENTRY_NUMBER]))
         at += data[at] + 256 * data[at + 1]
     return found
 
 
-def _first_entry(data: bytes) -> int:
-    return 40 + (data.index(0, 40) - 40) // 8 * 8 + 8
+def first_entry(data: bytes) -> int:
+    """Where the first field is described in the block of a definition, after the name of its message."""
+    name = AT_DEFINITION_NAME
+    return name + (data.index(0, name) - name) // 8 * 8 + 8
 
 
 class Definition:
@@ -286,9 +305,9 @@ class Definition:
 
     def __init__(self, data: bytes, told: Beside = NOTHING) -> None:
         self.data, self._told = data, told
-        fields, developer, bits = struct.unpack_from("<HHH", data, 34)
-        self.number: int = struct.unpack_from("<H", data, 32)[0]
-        self.name, self.is_counted = told.name or text_at(data, 40), bool(bits & 2)
+        fields, developer, bits = struct.unpack_from("<HHH", data, AT_DEFINITION_FIELDS)
+        self.number: int = struct.unpack_from("<H", data, AT_DEFINITION_MESSAGE)[0]
+        self.name, self.is_counted = told.name or text_at(data, AT_DEFINITION_NAME), bool(bits & IS_COUNTED)
         self.entries = self._entries(fields + developer)
         # Of several fields with one key the first counts.
         self.by_key: Dict[Key, Entry] = {}
@@ -307,10 +326,10 @@ class Definition:
     def _entries(self, count: int) -> Tuple[Entry, ...]:
         data, (_, fields, natives) = self.data, self._told
         types = _TYPES.get(self.number, {})
-        at = _first_entry(data)
+        at = first_entry(data)
         entries: List[Entry] = []
         for _ in range(count):
-            number, developer, index = data[at + 4], data[at + 5], data[at + 6]
+            number, developer, index = data[at + AT_ENTRY_NUMBER], data[at + AT_ENTRY_DEVELOPER], data[at + AT_ENTRY_INDEX]
             if developer:
                 entries.append(Entry(data, at, native=natives.get((index, number))))
             else:
@@ -353,7 +372,7 @@ class Definition:
 
     def is_same(self, other: "Definition") -> bool:
         """Whether messages of both, where they have the same bytes, are the same."""
-        return self is other or (self.data[32:] == other.data[32:] and self._told == other._told)
+        return self is other or (self.data[AT_DEFINITION_MESSAGE:] == other.data[AT_DEFINITION_MESSAGE:] and self._told == other._told)
 
     def __reduce__(self) -> Any:
         return Definition, (self.data, self._told)

@@ -1,8 +1,7 @@
 """Files that are written from values, and from what others have."""
 from typing import Any, Dict, Iterable, List, Mapping, Optional, Set, Tuple, Union
 
-from ._answers import UNWRITABLE
-from ._bases import base_named
+from ._bases import BYTE, base_named
 from ._events import DefinitionMessage, Everything, FileEnd, FileHeader
 from ._header_times import is_out_of_time, with_time
 from ._layout import END, KINDS, FieldDefinition, Kept, Layouts, fields_of_block, header_block, slim
@@ -10,9 +9,21 @@ from ._library import HAS_WRITER, VERSION, exact, library, text_of
 from ._messages import Message
 from ._names import Told, names_of
 from ._natives import DESCRIPTION, DEVELOPER_DATA, OF_DEVELOPERS, lone_number
+from ._numbers import (
+    AT_DEFINITION_DEVELOPERS,
+    AT_DEFINITION_LOCAL,
+    AT_DEFINITION_MESSAGE,
+    AT_MESSAGE_BITS,
+    AT_MESSAGE_LOCAL,
+    AT_MESSAGE_OFFSET,
+    NO_OFFSET,
+    TOLD_TIME,
+    UNWRITABLE,
+)
 from ._profile import Kind
 from ._shapes import DeveloperField, Shapes, Spec, byte, message_number
 from ._sinks import Sink, see_sink, write
+from ._times import OWN_TIME
 from ._values import Definition as Known
 from ._values import Key
 from ._written import Definition
@@ -162,14 +173,14 @@ class Writer:
         time is in its header gets a timestamp where messages before it are left out, from which that time counts."""
         if isinstance(event, Message):
             block, definition = event._block, event._definition
-            local = block[6]
-            if block[7] != 0xFF and is_out_of_time(block, self._time):
+            local = block[AT_MESSAGE_LOCAL]
+            if block[AT_MESSAGE_OFFSET] != NO_OFFSET and is_out_of_time(block, self._time):
                 definition, block = with_time(definition, block)
             if self._slots[local] is not definition:
                 self._place(definition, local)
             self._chunks.append(block)  # type: ignore[union-attr]
-            if block[5] & 1:
-                self._time = block[12:16]
+            if block[AT_MESSAGE_BITS] & TOLD_TIME:
+                self._time = block[OWN_TIME]
             if definition.number in OF_DEVELOPERS:
                 self._learn(definition, block)
         elif isinstance(event, DefinitionMessage):
@@ -239,10 +250,11 @@ class Writer:
         chunks = self._usable()
         if not self._is_open:
             self.file()
-        if block[36] or block[37]:
+        if block[AT_DEFINITION_DEVELOPERS] or block[AT_DEFINITION_DEVELOPERS + 1]:
             self._see_described(fields_of_block(block))
         self._is_whole = False
-        chunks.append(slim(block if block[5] == local else block[:5] + bytes([local]) + block[6:]))
+        at = AT_DEFINITION_LOCAL
+        chunks.append(slim(block if block[at] == local else block[:at] + bytes([local]) + block[at + 1 :]))
         self._turn += 1
         self._slots[local], self._turns[local] = definition, self._turn
         self._is_whole = True
@@ -250,9 +262,10 @@ class Writer:
     def _place(self, definition: Known, local: int) -> None:
         """Makes a local message type one of a definition that was read, by the last one that was copied, where that says the same."""
         copied, held = self._copied.get(local), self._slots[local]
-        if isinstance(held, Known) and held.data[32:] == definition.data[32:]:
+        said = definition.data[AT_DEFINITION_MESSAGE:]
+        if isinstance(held, Known) and held.data[AT_DEFINITION_MESSAGE:] == said:
             self._slots[local] = definition
-        elif copied is not None and copied[32:] == definition.data[32:]:
+        elif copied is not None and copied[AT_DEFINITION_MESSAGE:] == said:
             self._emit(definition, local, copied)
         else:
             self._emit(definition, local, definition.data)
@@ -262,7 +275,7 @@ class Writer:
         for field in fields:
             if field.developer is not None:
                 known = self._developers.get(field.key)
-                base = field._replace(base=known.base if known else 13).shape
+                base = field._replace(base=known.base if known else BYTE.code).shape
                 if base.width != field.shape.width:
                     raise ValueError(f"the developer field {field.key} isn't described in this file as where it comes from: copy its description first")
 

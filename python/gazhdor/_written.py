@@ -1,13 +1,14 @@
 """Messages of one kind that are written."""
 from typing import TYPE_CHECKING, Any, Dict, List, Mapping, Optional, Tuple
 
-from ._header_times import NO_TIME
 from ._items import Packer, packers
 from ._layout import Kept, definition_block, empty_message
 from ._natives import OF_DEVELOPERS
+from ._numbers import AT_MESSAGE_LOCAL, AT_MESSAGE_OFFSET, NO_OFFSET
 from ._profile import UnknownName
 from ._put import is_of_numbers, listed, put_column
 from ._shapes import DeveloperField, Shape
+from ._times import NO_TIME_BYTES
 from ._values import Definition as Known
 from .errors import WrongValue
 
@@ -75,7 +76,7 @@ class Definition:
         block, packs = bytearray(self._empty), self._packers
         for key, value in values.items():
             if key == _OFFSET:
-                block[7] = _offset(value)
+                block[AT_MESSAGE_OFFSET] = _offset(value)
             else:
                 pack = packs.get(key) or self._packer(key)
                 block[pack.begins : pack.begins + pack.size] = pack(value)
@@ -85,7 +86,7 @@ class Definition:
         """Writes a message with these values; a field that isn't named has none. Fields that are no words of Python are given by a mapping, as
         `{dev: 120, 3: 121}`, and there ".time_offset" is that of a compressed timestamp header."""
         block = self.see({**__values, **fields} if __values else fields)
-        if block[7] != 0xFF and (self._wanted is None or self._wanted > 3):
+        if block[AT_MESSAGE_OFFSET] != NO_OFFSET and (self._wanted is None or self._wanted > 3):
             raise ValueError("a compressed timestamp header needs a local message type of 0 to 3: define(.., local=0)")
         self._put(block)
         if self._number in OF_DEVELOPERS:
@@ -132,13 +133,13 @@ class Definition:
         writer._turn += 1
         writer._turns[self._local] = writer._turn
         length = len(self._empty)
-        if block[6] != self._local:
-            self._empty[6] = self._local
-            block[6::length] = bytes([self._local]) * (len(block) // length)
+        if block[AT_MESSAGE_LOCAL] != self._local:
+            self._empty[AT_MESSAGE_LOCAL] = self._local
+            block[AT_MESSAGE_LOCAL::length] = bytes([self._local]) * (len(block) // length)
         writer._usable().append(block)
         if self._time_at is not None:
             time = block[len(block) - length + self._time_at :][:4]
-            writer._time = writer._time if time == NO_TIME else bytes(time)
+            writer._time = writer._time if time == NO_TIME_BYTES else bytes(time)
 
     def _place(self) -> int:
         """The local message type that it gets: that which it was given, one that is free, or that which was used least lately."""
@@ -153,7 +154,7 @@ class Definition:
 
 def _offset(value: Any) -> int:
     if value is None:
-        return 0xFF
+        return NO_OFFSET
     if isinstance(value, bool) or not isinstance(value, int) or not 0 <= value <= 31:
         raise WrongValue(f"a time offset is 0 to 31, and not {value!r:.40}", _OFFSET, value, 0, 31)
     return value

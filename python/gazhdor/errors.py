@@ -1,7 +1,8 @@
 """What can be wrong: with the bytes or the text (FitError), with what they come from, and with the library itself."""
 from typing import Any, Dict, Optional, Tuple, Type
 
-from ._answers import BLOCK, NO_MEMORY, REFUSED, TRUNCATED, Answer
+from ._answers import Answer
+from ._numbers import BLOCK, NO_MEMORY, REFUSED, TRUNCATED
 
 
 class FitError(ValueError):

@@ -1,16 +1,11 @@
 //! The blocks of bytes that the library makes of messages, as docs/BLOCKS.md has them. Whatever bytes they have, nothing here panics.
+use crate::numbers::{
+    AT_DEFINITION_LOCAL, AT_DEFINITION_NAME, AT_DEFINITION_NUMBER, AT_ENTRY_LENGTH, AT_KIND, AT_LENGTH,
+    AT_MESSAGE_DEFINITION, AT_MESSAGE_ITEMS, AT_MESSAGE_LOCAL, DEFINITION, FILE_END, FILE_HEADER, LEAST_BLOCK,
+    LEAST_ENTRY, MESSAGE,
+};
 use std::sync::atomic::{AtomicU64, Ordering};
 use std::sync::Arc;
-
-pub(crate) const HEADER: u8 = 1;
-pub(crate) const DEFINITION: u8 = 2;
-pub(crate) const MESSAGE: u8 = 3;
-pub(crate) const END: u8 = 4;
-/// The least length of the block of a definition or of a message, and that of any other.
-pub(crate) const FRONT: usize = 40;
-const LEAST: usize = 24;
-/// The least length of an entry: its numbers, its name and its unit.
-const ENTRY: usize = 48;
 
 /// Some bytes from a place on; none where there aren't that many.
 pub(crate) fn some<const N: usize>(bytes: &[u8], at: usize) -> Option<[u8; N]> {
@@ -28,6 +23,11 @@ pub(crate) fn four(bytes: &[u8], at: usize) -> u32 {
 
 pub(crate) fn eight(bytes: &[u8], at: usize) -> u64 {
     some(bytes, at).map_or(0, u64::from_le_bytes)
+}
+
+/// Puts bytes at a place of a block that is there.
+pub(crate) fn put(block: &mut [u8], at: usize, bytes: &[u8]) {
+    block[at..at + bytes.len()].copy_from_slice(bytes);
 }
 
 /// Bytes up to the first zero, and all where there is none.
@@ -66,9 +66,13 @@ impl<'a> Walk<'a> {
     /// The next block, of any kind; none where there isn't a whole one.
     fn block(&mut self) -> Option<&'a [u8]> {
         let left = std::mem::take(&mut self.left);
-        let length = usize::try_from(four(left, 0)).ok()?;
+        let length = usize::try_from(four(left, AT_LENGTH)).ok()?;
         let block = left.get(..length)?;
-        let least = if matches!(block.get(4)?, &DEFINITION | &MESSAGE) { FRONT } else { LEAST };
+        let least = match *block.get(AT_KIND)? {
+            DEFINITION => AT_DEFINITION_NAME,
+            MESSAGE => AT_MESSAGE_ITEMS,
+            _ => LEAST_BLOCK,
+        };
         if length < least || length % 8 != 0 {
             return None;
         }
@@ -82,19 +86,20 @@ impl<'a> Walk<'a> {
     pub(crate) fn found(&mut self) -> Option<Found<'a>> {
         loop {
             let block = self.block()?;
-            match block[4] {
-                HEADER => return Some(Found::Header(block)),
+            match block[AT_KIND] {
+                FILE_HEADER => return Some(Found::Header(block)),
                 DEFINITION => {
-                    self.known[usize::from(block[5] & 15)] = block;
+                    self.known[usize::from(block[AT_DEFINITION_LOCAL] & 15)] = block;
                     return Some(Found::Definition(block));
                 }
                 MESSAGE => {
-                    let definition = self.known[usize::from(block[6] & 15)];
-                    if !definition.is_empty() && definition[24..32] == block[24..32] {
+                    let definition = self.known[usize::from(block[AT_MESSAGE_LOCAL] & 15)];
+                    let number = eight(block, AT_MESSAGE_DEFINITION);
+                    if !definition.is_empty() && eight(definition, AT_DEFINITION_NUMBER) == number {
                         return Some(Found::Message(block, definition));
                     }
                 }
-                END => return Some(Found::End),
+                FILE_END => return Some(Found::End),
                 _ => {}
             }
         }
@@ -151,6 +156,11 @@ impl Known {
     }
 }
 
+/// Where the first entry is in the block of a definition, after the name of its message.
+pub(crate) fn first_entry(definition: &[u8]) -> usize {
+    AT_DEFINITION_NAME + 8 + up_to_zero(&definition[AT_DEFINITION_NAME..]).len() / 8 * 8
+}
+
 /// The entries of a definition, one for each field.
 #[derive(Debug, Clone)]
 pub(crate) struct Entries<'a> {
@@ -159,8 +169,7 @@ pub(crate) struct Entries<'a> {
 
 impl<'a> Entries<'a> {
     pub(crate) fn new(definition: &'a [u8]) -> Entries<'a> {
-        let name = up_to_zero(&definition[FRONT..]).len();
-        Entries { left: definition.get(FRONT + 8 + name / 8 * 8..).unwrap_or(&[]) }
+        Entries { left: definition.get(first_entry(definition)..).unwrap_or(&[]) }
     }
 }
 
@@ -170,8 +179,8 @@ impl<'a> Iterator for Entries<'a> {
 
     fn next(&mut self) -> Option<&'a [u8]> {
         let left = std::mem::take(&mut self.left);
-        let length = usize::from(two(left, 0));
-        if length < ENTRY || length > left.len() {
+        let length = usize::from(two(left, AT_ENTRY_LENGTH));
+        if length < LEAST_ENTRY || length > left.len() {
             return None;
         }
         let (entry, left) = left.split_at(length);

@@ -1,6 +1,7 @@
 //! What is wrong with blocks of which files are to be made, and where.
 use crate::block_reason::{BlockReason, BLOCK_REASONS};
 use crate::library::Answer;
+use crate::numbers::{BLOCK, GOOD, NO_MEMORY, UNWRITABLE};
 use std::error::Error;
 use std::fmt::{self, Debug, Display, Formatter};
 
@@ -43,10 +44,10 @@ impl Error for BlocksFault {}
 /// What an answer of the library says is wrong with blocks.
 pub(crate) fn found(answer: &Answer) -> Option<BlocksFault> {
     Some(match answer.status {
-        0 => return None,
-        3 => BlocksFault::OutOfMemory,
-        5 => BlocksFault::Unwritable,
-        8 => BlocksFault::Block { block: answer.row, place: answer.place, reason: reason(answer.reason) },
+        GOOD => return None,
+        NO_MEMORY => BlocksFault::OutOfMemory,
+        UNWRITABLE => BlocksFault::Unwritable,
+        BLOCK => BlocksFault::Block { block: answer.row, place: answer.place, reason: reason(answer.reason) },
         other => panic!("status {other} isn't one of gazhdor {} for blocks", env!("CARGO_PKG_VERSION")),
     })
 }

@@ -1,12 +1,19 @@
 //! Definitions of messages that are to be written.
 use crate::base_type::BaseType;
-use crate::blocks::{four, two, up_to_zero, Entries, DEFINITION, FRONT, MESSAGE};
+use crate::blocks::{eight, first_entry, four, put, two, Entries};
 use crate::developer::Developer;
 use crate::draft::Draft;
 use crate::entry::{in_text, Entry};
 use crate::field::Field;
 use crate::message::Fields;
 use crate::names::{Named, Names};
+use crate::numbers::{
+    AT_DEFINITION_ARCHITECTURE, AT_DEFINITION_BITS, AT_DEFINITION_DEVELOPERS, AT_DEFINITION_FIELDS,
+    AT_DEFINITION_LOCAL, AT_DEFINITION_MESSAGE, AT_DEFINITION_MESSAGE_LENGTH, AT_DEFINITION_NAME, AT_DEFINITION_NUMBER,
+    AT_ENTRY_COUNT, AT_ENTRY_ITEMS, AT_ENTRY_WIDTH, AT_KIND, AT_LENGTH, AT_MESSAGE_DEFINITION, AT_MESSAGE_HEADER_TIME,
+    AT_MESSAGE_ITEMS, AT_MESSAGE_LOCAL, AT_MESSAGE_OFFSET, AT_MESSAGE_TIME, BIG_ENDIAN, DEFINITION, MESSAGE, NO_OFFSET,
+    NO_TIME, SAYS_DEVELOPERS,
+};
 use crate::unfit::{label, Unfit};
 use crate::usual;
 use std::borrow::Cow;
@@ -61,13 +68,13 @@ impl<'a> Definition<'a> {
 
     /// That of the message of a number, without fields.
     pub fn numbered(message: u16) -> Definition<'static> {
-        let mut block = vec![0; FRONT];
-        block[4] = DEFINITION;
-        block[32..34].copy_from_slice(&message.to_le_bytes());
+        let mut block = vec![0; AT_DEFINITION_NAME];
+        block[AT_KIND] = DEFINITION;
+        put(&mut block, AT_DEFINITION_MESSAGE, &message.to_le_bytes());
         block.extend(in_text(&usual::message_name(message)));
         let length = block.len() as u32;
-        block[..4].copy_from_slice(&length.to_le_bytes());
-        block[12..16].copy_from_slice(&(FRONT as u32).to_le_bytes());
+        put(&mut block, AT_LENGTH, &length.to_le_bytes());
+        put(&mut block, AT_DEFINITION_MESSAGE_LENGTH, &(AT_MESSAGE_ITEMS as u32).to_le_bytes());
         Definition { block: Cow::Owned(block), names: None, is_free: true }
     }
 
@@ -112,34 +119,34 @@ impl<'a> Definition<'a> {
         let (number, developer, base_type) = (of.number, Some(of.index), of.base_type);
         let position = self.counts().0 + self.counts().1;
         let mut made = self.with_entry(Entry { number, developer, base_type, items, named }, position)?;
-        made.block.to_mut()[38] |= 1;
+        made.block.to_mut()[AT_DEFINITION_BITS] |= SAYS_DEVELOPERS as u8;
         Ok(made)
     }
 
     /// The same of a fixed local message type, 0 to 15, in the place of one that the writer chooses. Of a larger number the low four bits
     /// count.
     pub fn at(mut self, local: u8) -> Definition<'a> {
-        self.block.to_mut()[5] = local & 15;
+        self.block.to_mut()[AT_DEFINITION_LOCAL] = local & 15;
         Definition { is_free: false, ..self }
     }
 
     /// The same with numbers in big endian in the file.
     pub fn big_endian(mut self) -> Definition<'a> {
-        self.block.to_mut()[6] = 1;
+        self.block.to_mut()[AT_DEFINITION_ARCHITECTURE] = BIG_ENDIAN;
         self
     }
 
     /// A message of this definition, in which no field has a value.
     pub fn message(&self) -> Draft<'_> {
-        let mut block = vec![0; (four(&self.block, 12) as usize).max(FRONT)];
-        let length = block.len() as u32;
-        block[..4].copy_from_slice(&length.to_le_bytes());
-        block[4] = MESSAGE;
-        block[6] = self.local();
-        block[7] = 0xFF;
-        block[12..16].copy_from_slice(&u32::MAX.to_le_bytes());
-        block[24..32].copy_from_slice(&self.block[24..32]);
-        block[32..40].copy_from_slice(&u64::from(u32::MAX).to_le_bytes());
+        let length = four(&self.block, AT_DEFINITION_MESSAGE_LENGTH).max(AT_MESSAGE_ITEMS as u32);
+        let mut block = vec![0; length as usize];
+        put(&mut block, AT_LENGTH, &length.to_le_bytes());
+        block[AT_KIND] = MESSAGE;
+        block[AT_MESSAGE_LOCAL] = self.local();
+        block[AT_MESSAGE_OFFSET] = NO_OFFSET;
+        put(&mut block, AT_MESSAGE_TIME, &NO_TIME.to_le_bytes());
+        put(&mut block, AT_MESSAGE_DEFINITION, &eight(&self.block, AT_DEFINITION_NUMBER).to_le_bytes());
+        put(&mut block, AT_MESSAGE_HEADER_TIME, &u64::from(NO_TIME).to_le_bytes());
         let mut made = Draft::new(block, &self.block, self.names, self.is_free);
         made.clear();
         made
@@ -147,17 +154,17 @@ impl<'a> Definition<'a> {
 
     /// The global message number, as 20 of `record`.
     pub fn number(&self) -> u16 {
-        two(&self.block, 32)
+        two(&self.block, AT_DEFINITION_MESSAGE)
     }
 
     /// The local message type; 0 where the writer chooses it.
     pub fn local(&self) -> u8 {
-        self.block[5] & 15
+        self.block[AT_DEFINITION_LOCAL] & 15
     }
 
     /// Whether numbers are in big endian in the file.
     pub fn is_big_endian(&self) -> bool {
-        self.block[6] == 1
+        self.block[AT_DEFINITION_ARCHITECTURE] == BIG_ENDIAN
     }
 
     /// Its fields, and then its developer fields, without values.
@@ -171,7 +178,7 @@ impl<'a> Definition<'a> {
 
     /// How many fields and how many developer fields it has.
     fn counts(&self) -> (usize, usize) {
-        (two(&self.block, 34).into(), two(&self.block, 36).into())
+        (two(&self.block, AT_DEFINITION_FIELDS).into(), two(&self.block, AT_DEFINITION_DEVELOPERS).into())
     }
 
     /// The number of the field of a name and its usual base type, by the names of this definition or else by the profile.
@@ -192,10 +199,9 @@ impl<'a> Definition<'a> {
         }
         let mut entries: Vec<Vec<u8>> = Entries::new(&self.block).map(<[u8]>::to_vec).collect();
         entries.insert(position.min(entries.len()), entry.bytes());
-        let name = up_to_zero(&self.block[FRONT..]).len();
-        let mut block = self.block[..FRONT + 8 + name / 8 * 8].to_vec();
-        let at = if entry.developer.is_some() { 36 } else { 34 };
-        block[at..at + 2].copy_from_slice(&(of_its_kind as u16 + 1).to_le_bytes());
+        let mut block = self.block[..first_entry(&self.block)].to_vec();
+        let at = if entry.developer.is_some() { AT_DEFINITION_DEVELOPERS } else { AT_DEFINITION_FIELDS };
+        put(&mut block, at, &(of_its_kind as u16 + 1).to_le_bytes());
         lay(&mut block, &mut entries);
         Ok(Definition { block: Cow::Owned(block), ..self })
     }
@@ -203,16 +209,16 @@ impl<'a> Definition<'a> {
 
 /// Puts entries after the front of a definition's block, with the places of their items in the block of a message, one after another.
 fn lay(block: &mut Vec<u8>, entries: &mut [Vec<u8>]) {
-    let mut begins = FRONT as u32;
-    block[38] &= 1; // its messages don't have speed, distance, cycles and power
+    let mut begins = AT_MESSAGE_ITEMS as u32;
+    block[AT_DEFINITION_BITS] &= SAYS_DEVELOPERS as u8; // its messages don't have speed, distance, cycles and power
     for entry in entries {
-        entry[12..16].copy_from_slice(&begins.to_le_bytes());
-        begins += (u32::from(entry[9]) * u32::from(entry[10]) + 7) / 8 * 8;
+        put(entry, AT_ENTRY_ITEMS, &begins.to_le_bytes());
+        begins += (u32::from(entry[AT_ENTRY_WIDTH]) * u32::from(entry[AT_ENTRY_COUNT]) + 7) / 8 * 8;
         block.extend_from_slice(entry);
     }
     let length = block.len() as u32;
-    block[..4].copy_from_slice(&length.to_le_bytes());
-    block[12..16].copy_from_slice(&begins.to_le_bytes());
+    put(block, AT_LENGTH, &length.to_le_bytes());
+    put(block, AT_DEFINITION_MESSAGE_LENGTH, &begins.to_le_bytes());
 }
 
 impl Debug for Definition<'_> {

@@ -4,6 +4,7 @@ use crate::field::{Field, Raw, Value};
 use crate::items;
 use crate::message::{Fields, Message};
 use crate::names::Names;
+use crate::numbers::{AT_MESSAGE_OFFSET, NO_OFFSET};
 use crate::time::Time;
 use crate::unfit::{label, Unfit};
 use std::fmt::{self, Debug, Formatter};
@@ -198,7 +199,7 @@ impl<'a> Draft<'a> {
             let (field, value) = ("time_offset".to_string(), offset.to_string());
             return Err(Unfit::Range { field, value, least: "0".to_string(), most: "31".to_string() });
         }
-        self.block[7] = offset.unwrap_or(0xFF);
+        self.block[AT_MESSAGE_OFFSET] = offset.unwrap_or(NO_OFFSET);
         Ok(())
     }
 

@@ -1,7 +1,12 @@
 //! The entry of a field in the block of a definition, as docs/BLOCKS.md has it.
 use crate::base_type::BaseType;
+use crate::blocks::put;
 use crate::names::Named;
-use crate::numbers::SIGNED;
+use crate::numbers::{
+    AT_ENTRY_BASE_TYPE, AT_ENTRY_COUNT, AT_ENTRY_DECIMALS, AT_ENTRY_DEVELOPER, AT_ENTRY_INDEX, AT_ENTRY_INVALID,
+    AT_ENTRY_KIND, AT_ENTRY_LENGTH, AT_ENTRY_NAME, AT_ENTRY_NUMBER, AT_ENTRY_OFFSET, AT_ENTRY_SCALE, AT_ENTRY_UNIT,
+    AT_ENTRY_WIDTH, SIGNED,
+};
 
 /// What the entry of a field says.
 pub(crate) struct Entry {
@@ -19,21 +24,21 @@ impl Entry {
         let (name, unit) = (in_text(self.name()), in_text(self.named.unit.as_deref().unwrap_or("")));
         let is_whole = self.base_type.kind() <= SIGNED;
         let (scale, offset) = if is_whole { self.measure() } else { (1, 0) };
-        let mut entry = Vec::with_capacity(32 + name.len() + unit.len());
-        entry.extend((32 + name.len() as u16 + unit.len() as u16).to_le_bytes());
-        entry.extend((32 + name.len() as u16).to_le_bytes());
-        entry.extend([self.number, self.developer.is_some().into(), self.developer.unwrap_or(0)]);
-        entry.extend([
-            self.base_type.code(),
-            self.base_type.kind(),
-            self.base_type.width(),
-            self.items,
-            decimals(scale),
-        ]);
-        entry.extend([0; 4]);
-        entry.extend(scale.to_le_bytes());
-        entry.extend(offset.to_le_bytes());
-        entry.extend(self.base_type.invalid().to_le_bytes());
+        let unit_at = AT_ENTRY_NAME + name.len();
+        let mut entry = vec![0; AT_ENTRY_NAME];
+        put(&mut entry, AT_ENTRY_LENGTH, &((unit_at + unit.len()) as u16).to_le_bytes());
+        put(&mut entry, AT_ENTRY_UNIT, &(unit_at as u16).to_le_bytes());
+        entry[AT_ENTRY_NUMBER] = self.number;
+        entry[AT_ENTRY_DEVELOPER] = self.developer.is_some().into();
+        entry[AT_ENTRY_INDEX] = self.developer.unwrap_or(0);
+        entry[AT_ENTRY_BASE_TYPE] = self.base_type.code();
+        entry[AT_ENTRY_KIND] = self.base_type.kind();
+        entry[AT_ENTRY_WIDTH] = self.base_type.width();
+        entry[AT_ENTRY_COUNT] = self.items;
+        entry[AT_ENTRY_DECIMALS] = decimals(scale);
+        put(&mut entry, AT_ENTRY_SCALE, &scale.to_le_bytes());
+        put(&mut entry, AT_ENTRY_OFFSET, &offset.to_le_bytes());
+        put(&mut entry, AT_ENTRY_INVALID, &self.base_type.invalid().to_le_bytes());
         entry.extend(name);
         entry.extend(unit);
         entry

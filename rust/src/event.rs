@@ -1,7 +1,11 @@
 //! All that files have, in its order.
-use crate::blocks::{two, Found, Walk, HEADER};
+use crate::blocks::{put, two, Found, Walk};
 use crate::definition::Definition;
 use crate::message::Message;
+use crate::numbers::{
+    AT_HEADER_PROFILE, AT_HEADER_PROTOCOL, AT_HEADER_REST, AT_HEADER_SIZE, AT_HEADER_SUM, AT_KIND, AT_LENGTH,
+    FILE_HEADER, NO_SUM, OWN_SUM, ZERO_SUM,
+};
 use std::borrow::Cow;
 use std::fmt::{self, Debug, Formatter};
 use std::iter::FusedIterator;
@@ -57,11 +61,11 @@ impl Debug for Events<'_> {
 #[derive(Debug, Clone, Copy, PartialEq, Eq, Hash)]
 pub enum Checksum {
     /// The header has 12 bytes, and none.
-    None = 0,
+    None = NO_SUM as isize,
     /// Zeros stand in its place.
-    Zeros = 1,
+    Zeros = ZERO_SUM as isize,
     /// It is there.
-    There = 2,
+    There = OWN_SUM as isize,
 }
 
 /// The header of a file, but for how many bytes of data follow.
@@ -76,9 +80,13 @@ impl Header<'static> {
     /// the profile that the program knows.
     pub fn new(protocol: u8, profile: u16, checksum: Checksum) -> Header<'static> {
         let size = if checksum == Checksum::None { 12 } else { 14 };
-        let mut block = vec![32, 0, 0, 0, HEADER, size, protocol, checksum as u8];
-        block.resize(24, 0);
-        block.extend(u64::from(profile).to_le_bytes());
+        let mut block = vec![0; AT_HEADER_REST];
+        put(&mut block, AT_LENGTH, &(AT_HEADER_REST as u32).to_le_bytes());
+        block[AT_KIND] = FILE_HEADER;
+        block[AT_HEADER_SIZE] = size;
+        block[AT_HEADER_PROTOCOL] = protocol;
+        block[AT_HEADER_SUM] = checksum as u8;
+        put(&mut block, AT_HEADER_PROFILE, &profile.to_le_bytes());
         Header { block: Cow::Owned(block) }
     }
 }
@@ -86,24 +94,24 @@ impl Header<'static> {
 impl Header<'_> {
     /// How many bytes it has.
     pub fn size(&self) -> u8 {
-        self.block[5]
+        self.block[AT_HEADER_SIZE]
     }
 
     /// The version of the protocol.
     pub fn protocol(&self) -> u8 {
-        self.block[6]
+        self.block[AT_HEADER_PROTOCOL]
     }
 
     /// The version of the profile.
     pub fn profile(&self) -> u16 {
-        two(&self.block, 24)
+        two(&self.block, AT_HEADER_PROFILE)
     }
 
     /// What its checksum is.
     pub fn checksum(&self) -> Checksum {
-        match self.block[7] {
-            0 => Checksum::None,
-            1 => Checksum::Zeros,
+        match self.block[AT_HEADER_SUM] {
+            NO_SUM => Checksum::None,
+            ZERO_SUM => Checksum::Zeros,
             _ => Checksum::There,
         }
     }

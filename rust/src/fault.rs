@@ -1,5 +1,6 @@
 //! What is wrong with bytes or a text, and where.
 use crate::library::{Answer, Text};
+use crate::numbers::{GOOD, NO_MEMORY, REFUSED, TEXT, TRUNCATED, UNWRITABLE};
 use crate::reason::{Reason, REASONS};
 use std::error::Error;
 use std::fmt::{self, Display, Formatter};
@@ -106,12 +107,12 @@ impl<T> From<Stopped<T>> for Fault {
 pub(crate) fn found(answer: &Answer) -> Option<Fault> {
     let place = answer.place;
     Some(match answer.status {
-        0 => return None,
-        1 => Fault::Refused { place, reason: reason(answer.reason) },
-        2 => Fault::Truncated { place },
-        3 => Fault::OutOfMemory,
-        4 => Fault::Text { row: answer.row, column: Some(answer.column).filter(|&column| column != 0) },
-        5 => Fault::Unwritable,
+        GOOD => return None,
+        REFUSED => Fault::Refused { place, reason: reason(answer.reason) },
+        TRUNCATED => Fault::Truncated { place },
+        NO_MEMORY => Fault::OutOfMemory,
+        TEXT => Fault::Text { row: answer.row, column: Some(answer.column).filter(|&column| column != 0) },
+        UNWRITABLE => Fault::Unwritable,
         other => panic!(
             "status {other} isn't one of gazhdor {}: the library is of another version",
             env!("CARGO_PKG_VERSION")

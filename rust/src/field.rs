@@ -1,7 +1,11 @@
 //! A field of a message, and its values.
 use crate::blocks::{eight, four, some, text, two, up_to_zero};
 use crate::names::{Named, Names};
-use crate::numbers::{BYTES, FLOAT, SIGNED, STRING};
+use crate::numbers::{
+    AT_ENTRY_BASE_TYPE, AT_ENTRY_COUNT, AT_ENTRY_DECIMALS, AT_ENTRY_DEVELOPER, AT_ENTRY_INDEX, AT_ENTRY_INVALID,
+    AT_ENTRY_ITEMS, AT_ENTRY_KIND, AT_ENTRY_NAME, AT_ENTRY_NUMBER, AT_ENTRY_OFFSET, AT_ENTRY_SCALE, AT_ENTRY_UNIT,
+    AT_ENTRY_WIDTH, BYTES, FLOAT, SIGNED, STRING,
+};
 use crate::steps::Measure;
 use std::fmt::{self, Debug, Formatter};
 use std::str;
@@ -72,8 +76,8 @@ pub enum Value<'a> {
 impl<'a> Field<'a> {
     /// The field of an entry of 48 bytes at least, in the block of a message.
     pub(crate) fn new(entry: &'a [u8], message: &'a [u8]) -> Field<'a> {
-        let first = four(entry, 12) as usize;
-        let end = first.saturating_add(usize::from(entry[9]) * usize::from(entry[10]));
+        let first = four(entry, AT_ENTRY_ITEMS) as usize;
+        let end = first.saturating_add(usize::from(entry[AT_ENTRY_WIDTH]) * usize::from(entry[AT_ENTRY_COUNT]));
         Field { entry, items: message.get(first..end).unwrap_or(&[]), named: None }
     }
 
@@ -86,62 +90,66 @@ impl<'a> Field<'a> {
     /// Its name in the profile, as `heart_rate`, or that which the file gives to a developer field.
     pub fn name(&self) -> Option<&'a str> {
         let named = self.named.and_then(|named| named.name.as_deref());
-        named.or_else(|| text(self.entry, 32))
+        named.or_else(|| text(self.entry, AT_ENTRY_NAME))
     }
 
     /// Whether it has this name, which isn't empty.
     pub(crate) fn is_named(&self, name: &[u8]) -> bool {
         match self.named.and_then(|named| named.name.as_deref()) {
             Some(named) => named.as_bytes() == name,
-            None => self.entry[32..].starts_with(name) && up_to_zero(&self.entry[32..]) == name && !name.is_empty(),
+            None => {
+                self.entry[AT_ENTRY_NAME..].starts_with(name)
+                    && up_to_zero(&self.entry[AT_ENTRY_NAME..]) == name
+                    && !name.is_empty()
+            }
         }
     }
 
     /// Its number in the message.
     pub fn number(&self) -> u8 {
-        self.entry[4]
+        self.entry[AT_ENTRY_NUMBER]
     }
 
     /// Of a developer field its developer data index.
     pub fn developer(&self) -> Option<u8> {
-        (self.entry[5] != 0).then(|| self.entry[6])
+        (self.entry[AT_ENTRY_DEVELOPER] != 0).then(|| self.entry[AT_ENTRY_INDEX])
     }
 
     /// Its unit, as `m/s`.
     pub fn unit(&self) -> Option<&'a str> {
         let named = self.named.and_then(|named| named.unit.as_deref());
-        named.or_else(|| text(self.entry, two(self.entry, 2).into()))
+        named.or_else(|| text(self.entry, two(self.entry, AT_ENTRY_UNIT).into()))
     }
 
     /// The code of its base type; of a developer field, that which the file says of it.
     pub fn base_type(&self) -> u8 {
-        self.entry[7]
+        self.entry[AT_ENTRY_BASE_TYPE]
     }
 
     /// How many items it has.
     pub fn count(&self) -> usize {
-        self.entry[10].into()
+        self.entry[AT_ENTRY_COUNT].into()
     }
 
     /// How many bytes an item has.
     pub fn width(&self) -> usize {
-        self.entry[9].into()
+        self.entry[AT_ENTRY_WIDTH].into()
     }
 
     /// A whole number `n` of the field stands for `n / scale - offset` units, by the profile; [`value`](Field::value) is what
     /// [`Names`](crate::Names) say.
     pub fn scale(&self) -> u32 {
-        four(self.entry, 16)
+        four(self.entry, AT_ENTRY_SCALE)
     }
 
     /// See [`scale`](Field::scale).
     pub fn offset(&self) -> u32 {
-        four(self.entry, 20)
+        four(self.entry, AT_ENTRY_OFFSET)
     }
 
     /// How many decimals a scaled number has.
     pub fn decimals(&self) -> u8 {
-        self.entry[11]
+        self.entry[AT_ENTRY_DECIMALS]
     }
 
     /// Item `k`, counted from 0, as a number in the field's unit: what a program mostly wants.
@@ -162,7 +170,7 @@ impl<'a> Field<'a> {
 
     /// Scale and offset, by what is said of the field beside the profile, or else by the profile.
     pub(crate) fn measure(&self) -> Measure {
-        let named = self.named.filter(|_| self.entry[8] != FLOAT); // Floats stand for themselves.
+        let named = self.named.filter(|_| self.entry[AT_ENTRY_KIND] != FLOAT); // Floats stand for themselves.
         let (scale, offset) = named.map_or((None, None), |named| (named.scale, named.offset));
         Measure {
             scale: scale.unwrap_or_else(|| self.scale().into()),
@@ -172,7 +180,7 @@ impl<'a> Field<'a> {
 
     /// What its items stand for, as docs/BLOCKS.md numbers it.
     pub(crate) fn kind(&self) -> u8 {
-        self.entry[8]
+        self.entry[AT_ENTRY_KIND]
     }
 
     pub(crate) fn is_lone_number(&self) -> bool {
@@ -181,18 +189,18 @@ impl<'a> Field<'a> {
 
     /// The item that stands for no value.
     pub(crate) fn invalid(&self) -> u64 {
-        eight(self.entry, 24)
+        eight(self.entry, AT_ENTRY_INVALID)
     }
 
     /// Where its items begin in the block of a message.
     pub(crate) fn begins(&self) -> usize {
-        four(self.entry, 12) as usize
+        four(self.entry, AT_ENTRY_ITEMS) as usize
     }
 
     /// Item `k`, counted from 0, as the file has it; none where there is no such item.
     pub fn raw(&self, k: usize) -> Option<Raw> {
-        let (bits, width) = (self.bits(k)?, self.entry[9]);
-        match self.entry[8] {
+        let (bits, width) = (self.bits(k)?, self.entry[AT_ENTRY_WIDTH]);
+        match self.entry[AT_ENTRY_KIND] {
             STRING | BYTES => Some(Raw::Byte(self.items[k])),
             FLOAT if width == 4 => Some(Raw::Float32(bits as u32)),
             FLOAT => Some(Raw::Float64(bits)),
@@ -206,8 +214,8 @@ impl<'a> Field<'a> {
 
     /// Whether there is an item `k` and it stands for a value. Each byte of bytes does, and each of a text but a zero.
     pub fn is_valid(&self, k: usize) -> bool {
-        let invalid = eight(self.entry, 24);
-        self.bits(k).map_or(false, |bits| self.entry[8] == BYTES || bits != invalid)
+        let invalid = eight(self.entry, AT_ENTRY_INVALID);
+        self.bits(k).map_or(false, |bits| self.entry[AT_ENTRY_KIND] == BYTES || bits != invalid)
     }
 
     /// Number `k`, counted from 0, as a whole number where the profile doesn't scale it. It is [`Value::None`] where
@@ -223,14 +231,15 @@ impl<'a> Field<'a> {
 
     /// What the whole field stands for.
     pub fn whole(&self) -> Value<'a> {
-        match (self.entry[8], self.count()) {
+        match (self.entry[AT_ENTRY_KIND], self.count()) {
             (STRING, _) => match (self.text(), up_to_zero(self.items)) {
                 (Some(text), _) => Value::Text(text),
                 (None, []) => Value::None,
                 (None, bytes) => Value::Bytes(bytes),
             },
             (BYTES, _) => {
-                let is_none = eight(self.entry, 24) == 0xFF && self.items.iter().all(|&byte| byte == 0xFF);
+                let is_none =
+                    eight(self.entry, AT_ENTRY_INVALID) == 0xFF && self.items.iter().all(|&byte| byte == 0xFF);
                 if is_none || self.items.is_empty() {
                     Value::None
                 } else {
@@ -245,7 +254,7 @@ impl<'a> Field<'a> {
 
     /// The text of a text field, up to its first zero; none where it is empty or isn't UTF-8.
     pub fn text(&self) -> Option<&'a str> {
-        (self.entry[8] == STRING).then(|| text(self.items, 0)).flatten()
+        (self.entry[AT_ENTRY_KIND] == STRING).then(|| text(self.items, 0)).flatten()
     }
 
     /// The bytes of all items, one after another: of numbers in little endian, whatever the file has.
@@ -255,7 +264,7 @@ impl<'a> Field<'a> {
 
     /// The bits of an item.
     fn bits(&self, k: usize) -> Option<u64> {
-        match self.entry[9] {
+        match self.entry[AT_ENTRY_WIDTH] {
             1 => self.items.get(k).map(|&byte| byte.into()),
             2 => some(self.items, k.checked_mul(2)?).map(|bytes| u16::from_le_bytes(bytes).into()),
             4 => some(self.items, k.checked_mul(4)?).map(|bytes| u32::from_le_bytes(bytes).into()),

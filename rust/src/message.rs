@@ -6,6 +6,12 @@ use crate::event::Events;
 use crate::field::{Field, Value};
 use crate::library::Bytes;
 use crate::names::Names;
+use crate::numbers::{
+    AT_DEFINITION_MESSAGE, AT_DEFINITION_NAME, AT_ENTRY_NAME, AT_FILE, AT_MESSAGE_BITS, AT_MESSAGE_CYCLES,
+    AT_MESSAGE_DISTANCE, AT_MESSAGE_HEADER_TIME, AT_MESSAGE_LOCAL, AT_MESSAGE_OFFSET, AT_MESSAGE_POWER,
+    AT_MESSAGE_SPEED, AT_MESSAGE_TIME, AT_PLACE, NO_OFFSET, TOLD_CYCLES, TOLD_DISTANCE, TOLD_HEADER_TIME, TOLD_POWER,
+    TOLD_SPEED, TOLD_TIME,
+};
 use crate::time::Time;
 use crate::unfit::Unfit;
 use std::fmt::{self, Debug, Formatter};
@@ -134,62 +140,62 @@ impl<'a> Message<'a> {
     /// Its name in the profile, as `record`.
     pub fn name(&self) -> Option<&'a str> {
         let named = self.names.and_then(|names| names.message(self.number()));
-        named.or_else(|| text(self.definition, 40))
+        named.or_else(|| text(self.definition, AT_DEFINITION_NAME))
     }
 
     /// Its global message number, as 20 for `record`.
     pub fn number(&self) -> u16 {
-        two(self.definition, 32)
+        two(self.definition, AT_DEFINITION_MESSAGE)
     }
 
     /// Its local message type, 0 to 15.
     pub fn local(&self) -> u8 {
-        self.block[6]
+        self.block[AT_MESSAGE_LOCAL]
     }
 
     /// The number of its file in the chain, counted from 1.
     pub fn file(&self) -> u32 {
-        four(self.block, 8)
+        four(self.block, AT_FILE)
     }
 
     /// The place of its first byte among those of the files, counted from 0.
     pub fn place(&self) -> u64 {
-        eight(self.block, 16)
+        eight(self.block, AT_PLACE)
     }
 
     /// Its time: that of field 253 where it is valid, else that of a compressed timestamp header.
     pub fn time(&self) -> Option<Time> {
-        self.tells(1).then(|| Time::new(four(self.block, 12)))
+        self.tells(TOLD_TIME).then(|| Time::new(four(self.block, AT_MESSAGE_TIME)))
     }
 
     /// The time that a compressed timestamp header gives.
     pub fn header_time(&self) -> Option<Time> {
-        self.tells(2).then(|| Time::new(four(self.block, 32)))
+        self.tells(TOLD_HEADER_TIME).then(|| Time::new(four(self.block, AT_MESSAGE_HEADER_TIME)))
     }
 
     /// The time offset of a compressed timestamp header, 0 to 31; none where the header is a normal one.
     pub fn time_offset(&self) -> Option<u8> {
-        Some(self.block[7]).filter(|&offset| offset != 0xFF)
+        Some(self.block[AT_MESSAGE_OFFSET]).filter(|&offset| offset != NO_OFFSET)
     }
 
     /// Metres a second, of a record with `compressed_speed_distance`.
     pub fn speed(&self) -> Option<f64> {
-        self.amount(4, 40).map(|speed| speed as f64 / 100.0)
+        self.amount(TOLD_SPEED, AT_MESSAGE_SPEED).map(|speed| speed as f64 / 100.0)
     }
 
     /// Metres, accumulated over the file from `compressed_speed_distance`; none in a message without it.
     pub fn distance(&self) -> Option<f64> {
-        self.amount(8, 48).map(|distance| distance as f64 / 16.0)
+        self.amount(TOLD_DISTANCE, AT_MESSAGE_DISTANCE).map(|distance| distance as f64 / 16.0)
     }
 
     /// Cycles, accumulated over the file; none in a message without them.
     pub fn total_cycles(&self) -> Option<u64> {
-        self.amount(16, 56)
+        self.amount(TOLD_CYCLES, AT_MESSAGE_CYCLES)
     }
 
     /// Watts, accumulated over the file; none in a message without it.
     pub fn accumulated_power(&self) -> Option<u64> {
-        self.amount(32, 64)
+        self.amount(TOLD_POWER, AT_MESSAGE_POWER)
     }
 
     /// All fields, in the order of the definition, and then all developer fields.
@@ -200,7 +206,10 @@ impl<'a> Message<'a> {
     /// The first field of this name; developer fields have names too.
     pub fn field(&self, name: &str) -> Option<Field<'a>> {
         let name = name.as_bytes();
-        let is_named = |entry: &&[u8]| entry[32..].starts_with(name) && up_to_zero(&entry[32..]) == name;
+        let is_named = |entry: &&[u8]| {
+            let text = &entry[AT_ENTRY_NAME..];
+            text.starts_with(name) && up_to_zero(text) == name
+        };
         match name {
             [] => None,
             _ if self.names.is_some() => self.fields().find(|field| field.is_named(name)),
@@ -252,7 +261,7 @@ impl<'a> Message<'a> {
     }
 
     fn tells(&self, bit: u8) -> bool {
-        self.block[5] & bit != 0
+        self.block[AT_MESSAGE_BITS] & bit != 0
     }
 
     fn amount(&self, bit: u8, at: usize) -> Option<u64> {

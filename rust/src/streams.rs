@@ -3,6 +3,7 @@ use crate::blocks::Known;
 use crate::fault::{found, Fault, Stopped};
 use crate::library::{Answer, Bytes, Opened, Text};
 use crate::message::Messages;
+use crate::numbers::{STREAM_CHECK, STREAM_MESSAGES, STREAM_SHOW, STREAM_TABLE, STREAM_TO_CSV};
 use std::error::Error;
 use std::fmt::{self, Debug, Display, Formatter};
 use std::io::{self, ErrorKind, Read};
@@ -104,7 +105,7 @@ impl Stream<()> {
     ///
     /// [`Fault::OutOfMemory`].
     pub fn check() -> Result<Stream<()>, Fault> {
-        Stream::open(0)
+        Stream::open(STREAM_CHECK)
     }
 }
 
@@ -115,7 +116,7 @@ impl Stream<Text> {
     ///
     /// [`Fault::OutOfMemory`].
     pub fn show() -> Result<Stream<Text>, Fault> {
-        Stream::open(1)
+        Stream::open(STREAM_SHOW)
     }
 
     /// Opens a stream that makes the text of [`table`](crate::table): whole lines. The first one comes with the first call.
@@ -124,7 +125,7 @@ impl Stream<Text> {
     ///
     /// [`Fault::OutOfMemory`].
     pub fn table() -> Result<Stream<Text>, Fault> {
-        Stream::open(2)
+        Stream::open(STREAM_TABLE)
     }
 
     /// Opens a stream that makes the text of [`to_csv`](crate::to_csv): whole rows. The first line comes with the first call.
@@ -133,7 +134,7 @@ impl Stream<Text> {
     ///
     /// [`Fault::OutOfMemory`].
     pub fn to_csv() -> Result<Stream<Text>, Fault> {
-        Stream::open(3)
+        Stream::open(STREAM_TO_CSV)
     }
 }
 
@@ -160,7 +161,7 @@ impl Stream<Messages> {
     ///
     /// [`Fault::OutOfMemory`].
     pub fn messages() -> Result<Stream<Messages>, Fault> {
-        Stream::open(4)
+        Stream::open(STREAM_MESSAGES)
     }
 }
 

@@ -1,4 +1,5 @@
 //! Times as FIT files have them.
+use crate::numbers::NO_TIME;
 use std::fmt::{self, Display, Formatter};
 
 /// 1989-12-31T00:00:00 UTC in Unix time.
@@ -34,7 +35,7 @@ impl Time {
     /// ```
     pub fn from_unix(seconds: u64) -> Option<Time> {
         let seconds = u32::try_from(seconds.checked_sub(EPOCH)?).ok()?;
-        Some(Time(seconds)).filter(|time| !time.is_system() && seconds != u32::MAX)
+        Some(Time(seconds)).filter(|time| !time.is_system() && seconds != NO_TIME)
     }
 
     /// Seconds since 1989-12-31T00:00:00 UTC; of a system time, since the device was switched on.

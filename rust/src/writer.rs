@@ -1,5 +1,5 @@
 //! Files from messages.
-use crate::blocks::{four, END};
+use crate::blocks::{four, put};
 use crate::blocks_fault::BlocksFault;
 use crate::definition::Definition;
 use crate::developer::Developer;
@@ -8,6 +8,10 @@ use crate::event::{Checksum, Event, Header};
 use crate::from_blocks;
 use crate::library::Bytes;
 use crate::message::Message;
+use crate::numbers::{
+    AT_DEFINITION_ARCHITECTURE, AT_DEFINITION_LOCAL, AT_DEFINITION_MESSAGE, AT_DEFINITION_RESERVED, AT_HEADER_SUM,
+    AT_KIND, AT_LENGTH, FILE_END, LEAST_BLOCK,
+};
 use crate::unfit::Unfit;
 use std::error::Error;
 use std::fmt::{self, Debug, Display, Formatter};
@@ -174,7 +178,7 @@ impl<W: Write> Writer<W> {
         if self.blocks.is_empty() {
             return Ok(());
         }
-        self.push(&[24, 0, 0, 0, END, 0, 0, 0, 0, 0, 0, 0, 0, 0, 0, 0, 0, 0, 0, 0, 0, 0, 0, 0])?;
+        self.push(&end_block())?;
         let made = self.made().map_err(|fault| self.failed(fault))?;
         self.files.push(made);
         self.before = (self.before.0 + self.count, self.before.1 + self.blocks.len() as u64);
@@ -205,8 +209,8 @@ impl<W: Write> Writer<W> {
     fn made(&mut self) -> Result<Bytes, BlocksFault> {
         let made = from_blocks(&self.blocks);
         // Zeros can't stand for a checksum that is 0 and so is there. The header that was copied had another size of its data.
-        if matches!(made, Err(BlocksFault::Unwritable)) && self.blocks[7] == Checksum::Zeros as u8 {
-            self.blocks[7] = Checksum::There as u8;
+        if matches!(made, Err(BlocksFault::Unwritable)) && self.blocks[AT_HEADER_SUM] == Checksum::Zeros as u8 {
+            self.blocks[AT_HEADER_SUM] = Checksum::There as u8;
             return from_blocks(&self.blocks);
         }
         made
@@ -257,7 +261,7 @@ impl<W: Write> Writer<W> {
 
     fn push_definition(&mut self, definition: &[u8], local: u8) -> Result<(), BlocksFault> {
         let place = self.push(definition)?;
-        self.blocks[place + 5] = local;
+        self.blocks[place + AT_DEFINITION_LOCAL] = local;
         self.defined[usize::from(local)] = Defined { place: place..self.blocks.len(), read: (0, 0), used: self.count };
         Ok(())
     }
@@ -265,7 +269,8 @@ impl<W: Write> Writer<W> {
     /// Whether the last definition of a local message type says the same: all but which definition it is of all that were read.
     fn is_defined(&self, definition: &[u8], local: u8) -> bool {
         let last = &self.blocks[self.defined[usize::from(local)].place.clone()];
-        last.len() == definition.len() && last[6..8] == definition[6..8] && last[32..] == definition[32..]
+        let parts = [AT_DEFINITION_ARCHITECTURE..AT_DEFINITION_RESERVED + 1, AT_DEFINITION_MESSAGE..definition.len()];
+        last.len() == definition.len() && parts.into_iter().all(|part| last[part.clone()] == definition[part])
     }
 
     /// Of some first local message types one that has this definition, or else the one that was used longest ago.
@@ -277,7 +282,7 @@ impl<W: Write> Writer<W> {
     /// Puts a block after the others, and returns where it begins.
     fn push(&mut self, block: &[u8]) -> Result<usize, BlocksFault> {
         let place = self.blocks.len();
-        let length = four(block, 0) as usize;
+        let length = four(block, AT_LENGTH) as usize;
         if self.blocks.try_reserve(length).is_err() {
             return Err(self.failed(BlocksFault::OutOfMemory));
         }
@@ -285,6 +290,14 @@ impl<W: Write> Writer<W> {
         self.count += 1;
         Ok(place)
     }
+}
+
+/// The block of the end of a file.
+fn end_block() -> [u8; LEAST_BLOCK] {
+    let mut block = [0; LEAST_BLOCK];
+    put(&mut block, AT_LENGTH, &(LEAST_BLOCK as u32).to_le_bytes());
+    block[AT_KIND] = FILE_END;
+    block
 }
 
 /// Version 2.0 of the protocol, and the profile's version that headers have.
