@@ -20,8 +20,7 @@
 
 #define TEXT 40 /* after the 40 bytes of an answer stands its text: where it lies, and its length */
 #define PLACE 56
-#define MOST 65536u  /* pages: 4 GiB */
-#define LITTLE 4096u /* so many bytes have room beside the data from the first */
+#define MOST 65536u /* pages: 4 GiB */
 
 /* ---- Memory */
 
@@ -60,7 +59,7 @@ static u32 memory_grow(memory *m, u32 more)
 /* The module, with room for so many bytes; false where memory is refused. */
 static int module_opened(memory *m, size_t length)
 {
-    if (!memory_open(m, MODULE_PAGES + (length > LITTLE ? ((u64)length >> 16) + 1 : 0)))
+    if (!memory_open(m, MODULE_PAGES + 1 + ((u64)length >> 16)))
         return 0;
     module_begin(m);
     return 1;
