@@ -1,6 +1,6 @@
 -- Messages that are taken in ahead are skipped.
-use Rattle.fit_report.proofs.Common.{◌≡◌, ◌∙◌, ◌++◌, ◌∷◌, [], ◌<◌, ◌≤◌, ◌+◌, ℕ, List, Some, length, reverse, refl, sym, ap, subst, take, drop, arith, append-nil, length-drop}
-use Rattle.fit_report.proofs.Common.{append_assoc, inl, inr, map, map-append, reverse-append, reverse-reverse, Global, AreEvents, Event, item, Record, Seen}
+use Rattle.fit_report.proofs.Common.{◌≡◌, ◌∙◌, ◌++◌, ◌∷◌, [], ◌<◌, ◌≤◌, ◌+◌, ℕ, List, Some, length, reverse, refl, sym, ap, subst, take, drop, arith}
+use Rattle.fit_report.proofs.Common.{append-nil, append_assoc, length-drop, inl, inr, map, map-append, reverse-append, reverse-reverse, Global, AreEvents, Event, item, Record, Seen}
 use Rattle.fit_report.proofs.Common.{Lines, Skips, text_of, hear_records}
 use Rattle.fit_report.proofs.Skipped.{records_heard}
 use Rattle.fit_chain.specs.Events.{known_after}
@@ -52,7 +52,8 @@ module _ {R : Type 0} (has : R → List (Event Global) → Type 0) (line : Lines
   }
 
   module _ {before between : R} {first second : List ℕ} {used : ℕ} (p : TakesAhead has line seen piece before between first second used) where
-    module _ (size : ℕ) (rest : List ℕ) (next : NextMessage Global (record { fed = seen; piece = piece; used = used }) size) (left : rest ≡ drop used piece) where
+    module _ (size : ℕ) (rest : List ℕ) (next : NextMessage Global (record { fed = seen; piece = piece; used = used }) size)
+        (left : rest ≡ drop used piece) where
       spelled : (heard : List (Event Global)) → AreEvents seen.bytes (reverse heard)
           → IsRecord (known_after (reverse (hear_records p.records heard))) (Data next.0) (take size rest)
       spelled heard are =
