@@ -1,7 +1,7 @@
 -- Messages that are taken in ahead are skipped.
 use Rattle.fit_report.proofs.Common.{◌≡◌, ◌∙◌, ◌++◌, ◌∷◌, [], ◌<◌, ◌≤◌, ◌+◌, ℕ, List, Some, length, reverse, refl, sym, ap, subst, take, drop, arith}
-use Rattle.fit_report.proofs.Common.{append-nil, append_assoc, length-drop, inl, inr, map, map-append, reverse-append, reverse-reverse, Global, AreEvents, Event, item, Record, Seen}
-use Rattle.fit_report.proofs.Common.{Lines, Skips, text_of, hear_records}
+use Rattle.fit_report.proofs.Common.{append-nil, append_assoc, length-drop, inl, inr, map, map-append, reverse-append, reverse-reverse, Global, AreEvents}
+use Rattle.fit_report.proofs.Common.{Event, item, Record, Seen, Lines, Skips, text_of, hear_records}
 use Rattle.fit_report.proofs.Skipped.{records_heard}
 use Rattle.fit_chain.specs.Events.{known_after}
 use Rattle.fit_decode.specs.Answers.{LookedAhead, MessagesFollow, NextMessage}

@@ -58,7 +58,7 @@ returns-then-len-ge-FULL_TEXT-clause-takes g c =
         c.split_at.ensures.back ∙ ap (λ n. drop n c.args.piece.now) c.used-at.ensures in
     let has = g.T.MessageTaker.has_heard in
     subst (λ n. TakesAhead has g.T.MessageTaker.line c.args.decoder.now c.args.piece.now c.args.taker.now c.take.new.self c.args.text.now.items
-    c.take.new.text.items n) (sym (c.used-then-len-ge-FULL_TEXT.ensures ∙ ap (λ (a : LookedAhead). a.used) c.next-size.ensures.used))
+    c.take.new.text.items n) (sym (c.used.ensures ∙ ap (λ (a : LookedAhead). a.used) c.next-size.ensures.used))
     (takes_more has g.T.MessageTaker.line c.args.decoder.now c.args.piece.now c.messages.invariant.takes c.next-size.result
     c.split_at.result.1.now next left c.take.new.self c.take.new.text.items some c.in_ok-take.ensures.heard c.in_ok-take.ensures.text)
 

@@ -20,9 +20,9 @@ returns-in_err-used-clause-memory g c =
     rw p.1 (0, omega arith, λ i. record c.args.decoder.now { bytes = sym (append-nil c.args.decoder.now.bytes) i })
 
 pub skip_messages-requires : goal.skip_messages-requires
-skip_messages-requires g c = (c.in_ok-used.ensures.takes.records, c.in_ok-used.ensures.takes.follow)
+skip_messages-requires g c = (omega arith, (c.in_ok-used.ensures.takes.records, c.in_ok-used.ensures.takes.follow))
 
 pub returns-clause-skips : goal.returns-clause-skips
 returns-clause-skips g c =
-    skips_taken g.T.MessageTaker.has_heard g.T.MessageTaker.line c.args.decoder.now c.args.piece.now c.in_ok-used.ensures.takes c.skip_messages.new.decoder
+    skips_taken g.T.MessageTaker.has_heard g.T.MessageTaker.line c.args.decoder.now c.args.piece.now c.in_ok-used.ensures.takes c.skip_messages.new.self
     (omega (arith, c.if-used-eq0.false)) c.skip_messages.ensures.used c.skip_messages.ensures.events
