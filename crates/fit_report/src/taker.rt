@@ -24,12 +24,7 @@ pub trait MessageTaker {
 
     /// Takes in the data message that the first bytes of a piece are, that many, and puts its text after the old text. Out of memory,
     /// the text is of no use, and no further message is taken in.
-    fn take(
-        &mut self,
-        piece: &[u8],
-        size: usize,
-        text: &mut Vec<u8>,
-    ) -> Result<(), AllocError>
+    fn take(&mut self, piece: &[u8], size: usize, text: &mut Vec<u8>) -> Result<(), AllocError>
         requires within { size ≤ length piece.now }
         requires message { (heard : List (Told Global)) × (v : Values Global)
             × has_heard self.old heard

@@ -21,7 +21,7 @@ take-requires-clause-within g c =
     let some : 0 < c.next-size.result = omega (arith, c.if-size-eq0.false) in
     let next = next_here c.messages.ahead c.args.decoder.now c.args.piece.now c.next-size.result c.messages.invariant.is (c.next-size.ensures.message some) in
     let left : c.split_at.result.1.now ≡ drop c.messages.ahead.used c.args.piece.now =
-        c.split_at.ensures.back ∙ ap (λ n. drop n c.args.piece.now) c.used-at.ensures in
+    c.split_at.ensures.back ∙ ap (λ n. drop n c.args.piece.now) c.used-at.ensures in
     next_within g.T.MessageTaker.has_heard g.T.MessageTaker.line c.args.decoder.now c.args.piece.now c.messages.invariant.takes c.next-size.result
     c.split_at.result.1.now next left
 
@@ -30,7 +30,7 @@ take-requires-clause-message g c =
     let some : 0 < c.next-size.result = omega (arith, c.if-size-eq0.false) in
     let next = next_here c.messages.ahead c.args.decoder.now c.args.piece.now c.next-size.result c.messages.invariant.is (c.next-size.ensures.message some) in
     let left : c.split_at.result.1.now ≡ drop c.messages.ahead.used c.args.piece.now =
-        c.split_at.ensures.back ∙ ap (λ n. drop n c.args.piece.now) c.used-at.ensures in
+    c.split_at.ensures.back ∙ ap (λ n. drop n c.args.piece.now) c.used-at.ensures in
     let (heard, here, are) = c.requires in
     may_take g.T.MessageTaker.has_heard g.T.MessageTaker.line c.args.decoder.now c.args.piece.now c.messages.invariant.takes c.next-size.result
     c.split_at.result.1.now next left heard here are
@@ -40,7 +40,7 @@ messages-preserved g c =
     let some : 0 < c.next-size.result = omega (arith, c.if-size-eq0.false) in
     let next = next_here c.messages.ahead c.args.decoder.now c.args.piece.now c.next-size.result c.messages.invariant.is (c.next-size.ensures.message some) in
     let left : c.split_at.result.1.now ≡ drop c.messages.ahead.used c.args.piece.now =
-        c.split_at.ensures.back ∙ ap (λ n. drop n c.args.piece.now) c.used-at.ensures in
+    c.split_at.ensures.back ∙ ap (λ n. drop n c.args.piece.now) c.used-at.ensures in
     let has = g.T.MessageTaker.has_heard in
     record {
       is = ahead_on c.messages.ahead c.next-size.new.self c.args.decoder.now c.args.piece.now _ c.messages.invariant.is c.next-size.ensures.used;
@@ -55,7 +55,7 @@ returns-then-len-ge-FULL_TEXT-clause-takes g c =
     let some : 0 < c.next-size.result = omega (arith, c.if-size-eq0.false) in
     let next = next_here c.messages.ahead c.args.decoder.now c.args.piece.now c.next-size.result c.messages.invariant.is (c.next-size.ensures.message some) in
     let left : c.split_at.result.1.now ≡ drop c.messages.ahead.used c.args.piece.now =
-        c.split_at.ensures.back ∙ ap (λ n. drop n c.args.piece.now) c.used-at.ensures in
+    c.split_at.ensures.back ∙ ap (λ n. drop n c.args.piece.now) c.used-at.ensures in
     let has = g.T.MessageTaker.has_heard in
     subst (λ n. TakesAhead has g.T.MessageTaker.line c.args.decoder.now c.args.piece.now c.args.taker.now c.take.new.self c.args.text.now.items
     c.take.new.text.items n) (sym (c.used.ensures ∙ ap (λ (a : LookedAhead). a.used) c.next-size.ensures.used))
@@ -67,7 +67,7 @@ messages-smaller g c =
     let some : 0 < c.next-size.result = omega (arith, c.if-size-eq0.false) in
     let next = next_here c.messages.ahead c.args.decoder.now c.args.piece.now c.next-size.result c.messages.invariant.is (c.next-size.ensures.message some) in
     let left : c.split_at.result.1.now ≡ drop c.messages.ahead.used c.args.piece.now =
-        c.split_at.ensures.back ∙ ap (λ n. drop n c.args.piece.now) c.used-at.ensures in
+    c.split_at.ensures.back ∙ ap (λ n. drop n c.args.piece.now) c.used-at.ensures in
     let ends = next_ends g.T.MessageTaker.has_heard g.T.MessageTaker.line c.args.decoder.now c.args.piece.now c.messages.invariant.takes c.next-size.result
     c.split_at.result.1.now next left in
     omega (arith, some, ends, ap (λ (a : LookedAhead). a.used) c.next-size.ensures.used)

@@ -1,5 +1,4 @@
 use Rattle.fit_report.proofs.Common.{◌≡◌, ◌-◌, length}
-use Rattle.fit_decode.specs.Answers.{LookedAhead}
 use Rattle.fit_report.specs.inner.Taking.{TakesAhead}
 use Rattle.fit_report.proofs.taker.take_ahead.Given as goal
 

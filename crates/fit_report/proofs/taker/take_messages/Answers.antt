@@ -1,4 +1,4 @@
-use Rattle.fit_report.proofs.Common.{◌<◌, ap, append-nil, arith, err_from_is_err_and, subst, sym}
+use Rattle.fit_report.proofs.Common.{append-nil, arith, err_from_is_err_and, subst, sym}
 use Rattle.std.proofs.lemmas.Result.{IfOk-weaker}
 use Rattle.fit_report.proofs.TakenMessages.{skips_taken, skips_then}
 use Rattle.fit_report.proofs.taker.take_messages.Goals as goal
