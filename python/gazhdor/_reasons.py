@@ -1,5 +1,5 @@
-"""Why a byte is refused, and why a block can't be written: each reason, by its number from 1, with what it says of the byte or
-the block. Written by profile/make."""
+"""Why a byte is refused, and why a block can't be written: each reason, by its number from 1, with what it says of the
+byte or the block. Written by profile/make."""
 
 REASONS = (
     ("HeaderSize", "begins a header of 0 to 11 or 13 bytes"),

@@ -1,11 +1,12 @@
 """The track of a ride as GPX 1.1, a text that maps and other programs read."""
 import re
-from typing import Iterator, List, Optional
+from collections.abc import Iterator
+from typing import Optional
 
-from ._library import VERSION
-from ._sources import Source
-from ._streams import rows
-from .errors import FitError
+from .._library import VERSION
+from .._sources import Source
+from ..errors import FitError
+from .streams import rows
 
 _HEAD = f"""<?xml version="1.0" encoding="UTF-8"?>
 <gpx version="1.1" creator="gazhdor {VERSION}" xmlns="http://www.topografix.com/GPX/1/1" xmlns:gpxtpx="http://www.garmin.com/xmlschemas/TrackPointExtension/v1">
@@ -23,7 +24,7 @@ def _element(name: str, text: Optional[str]) -> str:
     return "" if text is None else f"<{name}>{text}</{name}>"
 
 
-def _point(cells: List[str]) -> str:
+def _point(cells: list[str]) -> str:
     """The point of a row of the table; an empty text where it has no place on the earth."""
     lat, long = _number(cells[2], -90, 90), _number(cells[3], -180, 180)
     if lat is None or long is None:
@@ -53,9 +54,10 @@ def parts(source: Source, partial: bool = False) -> Iterator[str]:
 
 
 def gpx(source: Source, partial: bool = False) -> str:
-    """Returns the track of the record messages as GPX 1.1: a track for each file, a point for each message that has a place, with altitude,
-    time, and temperature, heart rate and cadence as an extension that Garmin defined. `partial` as for `table_text`."""
-    made: List[str] = []
+    """Returns the track of the record messages as GPX 1.1: a track for each file, a point for each message that has a
+    place, with altitude, time, and temperature, heart rate and cadence as an extension that Garmin defined. `partial`
+    as for `table_text`."""
+    made: list[str] = []
     try:
         made.extend(parts(source, partial))
     except FitError:

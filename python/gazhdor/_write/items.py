@@ -8,12 +8,12 @@ import operator
 import re
 import struct
 from fractions import Fraction
-from typing import Any, Dict, List, Optional, Tuple
+from typing import Any, Optional
 
-from ._numbers import BYTES, FLOAT, SIGNED, STRING
-from ._times import EPOCH, SYSTEM_TIMES, when
-from ._values import Definition, Entry, as_value, degrees, label
-from .errors import WrongValue
+from .._numbers import BYTES, FLOAT, SIGNED, STRING
+from .._read.values import Definition, Entry, as_value, degrees, label
+from .._times import EPOCH, SYSTEM_TIMES, when
+from ..errors import WrongValue
 
 _SYSTEM = re.compile(r"system\+(\d{1,9})", re.A).fullmatch
 _NAIVE = EPOCH.replace(tzinfo=None)
@@ -38,8 +38,8 @@ def rounded(top: int, bottom: int) -> int:
 
 
 class Packer:
-    """What makes the items of a field of a value. A value is what `messages` gives: a number in the unit of the field, or None. Of a field in
-    semicircles a float is degrees; a time may be a datetime, or the text 'system+N'."""
+    """What makes the items of a field of a value. A value is what `messages` gives: a number in the unit of the field,
+    or None. Of a field in semicircles a float is degrees; a time may be a datetime, or the text 'system+N'."""
 
     __slots__ = ("entry", "begins", "size", "none", "_least", "_most", "_pack", "scale", "shift", "_is_plain", "_is_degrees", "_is_direct", "_by", "_from", "_ratio")
 
@@ -154,7 +154,7 @@ class Packer:
     def label(self) -> str:
         return label(self.entry.name or self.entry.key)
 
-    def limits(self) -> Tuple[Any, Any]:
+    def limits(self) -> tuple[Any, Any]:
         """The least and the greatest value that the field can have, in its unit."""
         entry = self.entry
         if entry.kind >= FLOAT:
@@ -250,18 +250,18 @@ def text_bytes(value: Any, field: str) -> bytes:
         raise WrongValue(f"{shown(value)} has a letter that UTF-8 hasn't", field, value) from None
 
 
-def several(value: Any) -> List[Any]:
-    """The items of a value: those of a list, a tuple, an array or whatever gives them one after another, or the one that it is. Of very many
-    only the first are taken, which are too many."""
+def several(value: Any) -> list[Any]:
+    """The items of a value: those of a list, a tuple, an array or whatever gives them one after another, or the one
+    that it is. Of very many only the first are taken, which are too many."""
     is_one = isinstance(value, (str, bytes, bytearray, datetime.datetime, dict, set, frozenset))
     if is_one or not hasattr(value, "__iter__") or getattr(value, "shape", None) == ():
         return [value]
     return list(itertools.islice(value, 256))
 
 
-def packers(definition: Definition) -> Dict[Any, Packer]:
+def packers(definition: Definition) -> dict[Any, Packer]:
     """What packs each field of a definition, by its keys. It is made once."""
-    found: Optional[Dict[Any, Packer]] = definition.made.get("packers")
+    found: Optional[dict[Any, Packer]] = definition.made.get("packers")
     if found is None:
         by_entry = {id(entry): Packer(entry) for entry in definition.entries}
         found = definition.made["packers"] = {key: by_entry[id(entry)] for key, entry in definition.by_key.items()}
