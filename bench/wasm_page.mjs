@@ -1,6 +1,6 @@
 /* Prints the seconds from when docs/ride.html is handed a file to when the ride is drawn, the best of five: node wasm_page.mjs CHROMIUM FILE */
 import { resolve } from "node:path"
-import { Browser, Page } from "../tests/wasm_browser.mjs"
+import { Browser, Page } from "../js/tests/browser.mjs"
 
 const [program, path] = process.argv.slice(2)
 const browser = new Browser(program)

@@ -10,7 +10,7 @@
  *
  * Tested, not proved: none of these reads outside the blocks that it is given, which are memory of their length, whatever bytes they
  * have and whatever the other numbers are. What isn't there is NAN, 0, "" or NULL, as each says. Names and texts lie in the blocks, and
- * last as long as they do. */
+ * last as long as they do. What is more than an access to a place stands in the library, in c/gazhdor_blocks.c. */
 #ifndef GAZHDOR_BLOCKS_H
 #define GAZHDOR_BLOCKS_H
 
@@ -85,22 +85,7 @@ static inline uint64_t gazhdor_load(gazhdor_block block, uint64_t at, size_t wid
 }
 
 /* The first of some blocks; none where there isn't a whole one. */
-static inline gazhdor_block gazhdor_first(gazhdor_text blocks)
-{
-    gazhdor_block none = { GAZHDOR_NULL, 0, 0, 0, 0, 0 }, block = { blocks.bytes, blocks.length, 0, 0, 0, 0 };
-    block.length = GAZHDOR_CAST(size_t, gazhdor_load(block, GAZHDOR_AT_LENGTH, 4));
-    if (block.length > blocks.length || block.length < GAZHDOR_LEAST_BLOCK || block.length % 8 != 0)
-        return none;
-    block.kind = block.bytes[GAZHDOR_AT_KIND];
-    block.file = GAZHDOR_CAST(uint32_t, gazhdor_load(block, GAZHDOR_AT_FILE, 4));
-    block.place = gazhdor_load(block, GAZHDOR_AT_PLACE, 8);
-    if (block.kind == GAZHDOR_DEFINITION || block.kind == GAZHDOR_MESSAGE) {
-        block.number = gazhdor_load(block, GAZHDOR_AT_DEFINITION_NUMBER, 8);
-        if (block.length < GAZHDOR_AT_DEFINITION_NAME)
-            return none;
-    }
-    return block;
-}
+gazhdor_block gazhdor_first(gazhdor_text blocks);
 
 /* A reader before the first of some blocks, which knows no definition yet. */
 static inline gazhdor_reader gazhdor_read(gazhdor_text blocks)
@@ -113,25 +98,7 @@ static inline gazhdor_reader gazhdor_read(gazhdor_text blocks)
 }
 
 /* Goes to the next block: 1, or 0 where there is none. */
-static inline int gazhdor_next(gazhdor_reader *reader)
-{
-    gazhdor_block none = { GAZHDOR_NULL, 0, 0, 0, 0, 0 }, block = gazhdor_first(reader->left);
-    reader->block = block;
-    reader->definition = none;
-    reader->message = GAZHDOR_NO_MESSAGE;
-    if (block.bytes == GAZHDOR_NULL)
-        return 0;
-    reader->left.bytes += block.length;
-    reader->left.length -= block.length;
-    if (block.kind == GAZHDOR_DEFINITION)
-        reader->definition = reader->known[block.bytes[GAZHDOR_AT_DEFINITION_LOCAL] & 15] = block;
-    const gazhdor_block *known = &reader->known[block.bytes[GAZHDOR_AT_MESSAGE_LOCAL] & 15];
-    if (block.kind == GAZHDOR_MESSAGE && known->number == block.number)
-        reader->definition = *known;
-    if (block.kind == GAZHDOR_MESSAGE && reader->definition.bytes != GAZHDOR_NULL)
-        reader->message = GAZHDOR_CAST(uint32_t, gazhdor_load(reader->definition, GAZHDOR_AT_DEFINITION_MESSAGE, 2));
-    return 1;
-}
+int gazhdor_next(gazhdor_reader *reader);
 
 /* ---- Blocks of a stream. A message may be of a definition in an earlier piece, so a reader goes on from piece to piece:
  *
@@ -153,177 +120,51 @@ static inline void gazhdor_read_on(gazhdor_reader *reader, gazhdor_text blocks)
 
 /* Passes over the blocks that are left, and copies the definitions that later messages may be of, in memory of malloc, so that the blocks
  * may be freed: 1. Where memory is refused for one it is 0, and its messages are passed over. From here on the reader isn't copied. */
-static inline int gazhdor_keep(gazhdor_reader *reader)
-{
-    int all = 1;
-    while (gazhdor_next(reader))
-        ;
-    for (size_t i = 0; i < 16; i++) {
-        gazhdor_block *known = &reader->known[i];
-        if (known->bytes == reader->kept[i])
-            continue;
-        uint8_t *copy = GAZHDOR_CAST(uint8_t *, malloc(known->length));
-        all &= copy != GAZHDOR_NULL;
-        if (copy != GAZHDOR_NULL)
-            memcpy(copy, known->bytes, known->length);
-        else
-            memset(known, 0, sizeof *known);
-        free(reader->kept[i]);
-        known->bytes = reader->kept[i] = copy;
-    }
-    gazhdor_text none = GAZHDOR_NO_TEXT;
-    reader->left = none;
-    return all;
-}
+int gazhdor_keep(gazhdor_reader *reader);
 
 /* Frees these copies. The reader knows no definition any more. */
-static inline void gazhdor_forget(gazhdor_reader *reader)
-{
-    for (size_t i = 0; i < 16; i++)
-        free(reader->kept[i]);
-    memset(reader, 0, sizeof *reader);
-    reader->message = GAZHDOR_NO_MESSAGE;
-}
+void gazhdor_forget(gazhdor_reader *reader);
 
 /* A text in bytes of which the last is a zero; "" where it isn't. */
-static inline const char *gazhdor_name_at(gazhdor_block block, size_t at)
-{
-    const void *text = at < block.length && block.bytes[block.length - 1] == 0 ? block.bytes + at : GAZHDOR_BYTES_OF("");
-    return GAZHDOR_CAST(const char *, text);
-}
+const char *gazhdor_name_at(gazhdor_block block, size_t at);
 
 /* The name of the messages of a definition, as "record"; "" where the profile has none. */
-static inline const char *gazhdor_message_name(gazhdor_block definition)
-{
-    return definition.kind == GAZHDOR_DEFINITION ? gazhdor_name_at(definition, GAZHDOR_AT_DEFINITION_NAME) : "";
-}
+const char *gazhdor_message_name(gazhdor_block definition);
 
 /* The field that is described at this place in the block of its definition. For the next two. */
-static inline gazhdor_field gazhdor_field_at(gazhdor_block definition, size_t at)
-{
-    static const gazhdor_field none = { 0, "", "", GAZHDOR_NO_DEFINITION, 0, 0, 0, 0, 0, 0, 0, 0, 0, 0, 0, 0, 0 };
-    size_t length = GAZHDOR_CAST(size_t, gazhdor_load(definition, at + GAZHDOR_AT_ENTRY_LENGTH, 2));
-    if (definition.kind != GAZHDOR_DEFINITION || length < GAZHDOR_LEAST_ENTRY || length > definition.length - at)
-        return none;
-    const uint8_t *own = definition.bytes + at;
-    gazhdor_block entry = { own, length, 0, 0, 0, 0 };
-    gazhdor_field field = { 1, gazhdor_name_at(entry, GAZHDOR_AT_ENTRY_NAME),
-        gazhdor_name_at(entry, GAZHDOR_CAST(size_t, gazhdor_load(entry, GAZHDOR_AT_ENTRY_UNIT, 2))), definition.number,
-        gazhdor_load(entry, GAZHDOR_AT_ENTRY_INVALID, 8), GAZHDOR_CAST(uint32_t, gazhdor_load(entry, GAZHDOR_AT_ENTRY_ITEMS, 4)),
-        GAZHDOR_CAST(uint32_t, gazhdor_load(entry, GAZHDOR_AT_ENTRY_SCALE, 4)),
-        GAZHDOR_CAST(uint32_t, gazhdor_load(entry, GAZHDOR_AT_ENTRY_OFFSET, 4)), own[GAZHDOR_AT_ENTRY_NUMBER],
-        own[GAZHDOR_AT_ENTRY_DEVELOPER], own[GAZHDOR_AT_ENTRY_INDEX], own[GAZHDOR_AT_ENTRY_BASE_TYPE], own[GAZHDOR_AT_ENTRY_KIND],
-        own[GAZHDOR_AT_ENTRY_WIDTH], own[GAZHDOR_AT_ENTRY_COUNT], own[GAZHDOR_AT_ENTRY_DECIMALS], at + length };
-    return field;
-}
+gazhdor_field gazhdor_field_at(gazhdor_block definition, size_t at);
 
 /* The first field of a definition, and the one after a field of it: the fields in their order, and then the developer fields. There is
  * none after the last, after a field that isn't there, and after one of another definition. */
-static inline gazhdor_field gazhdor_first_field(gazhdor_block definition)
-{
-    return gazhdor_field_at(definition, GAZHDOR_AT_DEFINITION_NAME + 8 + strlen(gazhdor_message_name(definition)) / 8 * 8);
-}
+gazhdor_field gazhdor_first_field(gazhdor_block definition);
 
-static inline gazhdor_field gazhdor_next_field(gazhdor_block definition, gazhdor_field field)
-{
-    return gazhdor_field_at(definition, field.there && field.definition == definition.number ? field.end : definition.length);
-}
+gazhdor_field gazhdor_next_field(gazhdor_block definition, gazhdor_field field);
 
 /* The first field of a definition that has this name; developer fields have names too. None where the name is NULL or "". */
-static inline gazhdor_field gazhdor_named(gazhdor_block definition, const char *name)
-{
-    gazhdor_field field = gazhdor_first_field(definition);
-    while (field.there && (name == GAZHDOR_NULL || field.name[0] == 0 || strcmp(field.name, name) != 0))
-        field = gazhdor_next_field(definition, field);
-    return field;
-}
+gazhdor_field gazhdor_named(gazhdor_block definition, const char *name);
 
 /* The first field of a definition with this number, developer fields left out. */
-static inline gazhdor_field gazhdor_numbered(gazhdor_block definition, uint32_t number)
-{
-    gazhdor_field field = gazhdor_first_field(definition);
-    while (field.there && (field.developer || field.number != number))
-        field = gazhdor_next_field(definition, field);
-    return field;
-}
+gazhdor_field gazhdor_numbered(gazhdor_block definition, uint32_t number);
 
 /* The first developer field of a definition with this developer data index and this number. */
-static inline gazhdor_field gazhdor_developer(gazhdor_block definition, uint32_t index, uint32_t number)
-{
-    gazhdor_field field = gazhdor_first_field(definition);
-    while (field.there && (!field.developer || field.index != index || field.number != number))
-        field = gazhdor_next_field(definition, field);
-    return field;
-}
+gazhdor_field gazhdor_developer(gazhdor_block definition, uint32_t index, uint32_t number);
 
 /* All items of a field in a message, as they follow one another in its block; NULL where the message isn't of the field's definition. */
-static inline gazhdor_text gazhdor_items(gazhdor_field field, gazhdor_block message)
-{
-    gazhdor_text items = { GAZHDOR_NULL, 0 };
-    size_t length = GAZHDOR_CAST(size_t, field.count) * field.width;
-    if (!field.there || message.kind != GAZHDOR_MESSAGE || message.number != field.definition
-        || field.at > message.length || length > message.length - field.at)
-        return items;
-    items.bytes = message.bytes + field.at;
-    items.length = length;
-    return items;
-}
+gazhdor_text gazhdor_items(gazhdor_field field, gazhdor_block message);
 
 /* Item k of a field in a message, counted from 0, as it is: of a signed field the number as an int64_t, of a float its bits. Returns
  * whether it stands for a value; where there is no such item, it is 0. `raw` may be NULL, where only that is asked. */
-static inline int gazhdor_raw(gazhdor_field field, gazhdor_block message, size_t k, uint64_t *raw)
-{
-    gazhdor_text items = gazhdor_items(field, message);
-    gazhdor_block block = { items.bytes, items.length, 0, 0, 0, 0 };
-    uint64_t unwanted;
-    raw = raw == GAZHDOR_NULL ? &unwanted : raw;
-    *raw = 0;
-    if (k >= field.count || items.length == 0)
-        return 0;
-    switch (field.width) {
-    case 1: *raw = gazhdor_load(block, k, 1); break;
-    case 2: *raw = gazhdor_load(block, 2 * k, 2); break;
-    case 4: *raw = gazhdor_load(block, 4 * k, 4); break;
-    case 8: *raw = gazhdor_load(block, 8 * k, 8); break;
-    default: return 0;
-    }
-    uint64_t sign = field.kind == GAZHDOR_SIGNED ? GAZHDOR_CAST(uint64_t, 1) << (8 * field.width - 1) : 0;
-    *raw = (*raw ^ sign) - sign;
-    return field.kind == GAZHDOR_BYTES || *raw != field.invalid;
-}
+int gazhdor_raw(gazhdor_field field, gazhdor_block message, size_t k, uint64_t *raw);
 
 /* The number of a float by its bits, of 4 or 8 bytes. */
-static inline double gazhdor_float(uint64_t bits, uint32_t width)
-{
-    uint32_t few = GAZHDOR_CAST(uint32_t, bits);
-    float number;
-    double wide;
-    memcpy(&number, &few, 4);
-    memcpy(&wide, &bits, 8);
-    return width == 8 ? wide : width == 4 ? GAZHDOR_CAST(double, number) : NAN;
-}
+double gazhdor_float(uint64_t bits, uint32_t width);
 
 /* Item k of a field in a message, counted from 0, as a number in the field's unit: what a program mostly wants. NAN where the item says
  * that there is no value, where there is no such item or field, where the message is of another definition, and of strings and bytes. */
-static inline double gazhdor_value(gazhdor_field field, gazhdor_block message, size_t k)
-{
-    uint64_t raw;
-    if (!gazhdor_raw(field, message, k, &raw) || field.kind > GAZHDOR_FLOAT || field.scale == 0)
-        return NAN;
-    double number = field.kind == GAZHDOR_UNSIGNED ? GAZHDOR_CAST(double, raw)
-        : field.kind == GAZHDOR_SIGNED ? GAZHDOR_CAST(double, GAZHDOR_CAST(int64_t, raw)) : gazhdor_float(raw, field.width);
-    return (number - GAZHDOR_CAST(double, field.offset) * field.scale) / field.scale;
-}
+double gazhdor_value(gazhdor_field field, gazhdor_block message, size_t k);
 
 /* The text of a string field in a message, up to its first zero: UTF-8, if the file keeps to the protocol. NULL of other fields. */
-static inline gazhdor_text gazhdor_string(gazhdor_field field, gazhdor_block message)
-{
-    gazhdor_text none = { GAZHDOR_NULL, 0 }, text = gazhdor_items(field, message);
-    const void *end = text.length == 0 ? GAZHDOR_NULL : memchr(text.bytes, 0, text.length);
-    if (end != GAZHDOR_NULL)
-        text.length = GAZHDOR_CAST(size_t, GAZHDOR_CAST(const uint8_t *, end) - text.bytes);
-    return field.kind == GAZHDOR_STRING ? text : none;
-}
+gazhdor_text gazhdor_string(gazhdor_field field, gazhdor_block message);
 
 /* When a message was recorded, in seconds since 1989-12-31T00:00:00 UTC: by its timestamp, or else by its compressed header.
  * GAZHDOR_NO_TIME where neither tells it. */
@@ -340,14 +181,7 @@ static inline uint32_t gazhdor_header_time(gazhdor_block message)
 
 /* What a record message tells by a compressed or a short field: GAZHDOR_SPEED, in m/s; or added up over its file, GAZHDOR_DISTANCE, in
  * m, GAZHDOR_CYCLES, or GAZHDOR_POWER, in W. NAN where it tells none. */
-static inline double gazhdor_amount(gazhdor_block message, uint32_t amount)
-{
-    static const double parts[4] = { 100, 16, 1, 1 };
-    if (message.kind != GAZHDOR_MESSAGE || message.length < GAZHDOR_AT_MESSAGE_COUNTED_ITEMS || amount > GAZHDOR_POWER
-        || (message.bytes[GAZHDOR_AT_MESSAGE_BITS] & (GAZHDOR_TOLD_SPEED << amount)) == 0)
-        return NAN;
-    return GAZHDOR_CAST(double, gazhdor_load(message, GAZHDOR_AT_MESSAGE_SPEED + 8 * amount, 8)) / parts[amount];
-}
+double gazhdor_amount(gazhdor_block message, uint32_t amount);
 
 #ifdef __cplusplus
 }

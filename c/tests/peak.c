@@ -1,0 +1,59 @@
+/* Tests how much memory gazhdor_from_messages takes at its most, and of which blocks it takes none: peak FILE.. Of the blocks of each FILE it
+ * holds at most three times the bytes of the file, as a list that grows has the old one and the new one at once, and 64 KB more. Of no blocks,
+ * and of such as are cut or don't begin with a header, it takes none at all: with all memory refused it says which block is wrong. Bytes are
+ * counted, and all memory is refused at times: link with --wrap=malloc, realloc and free. */
+#define COUNTED
+#include "want.h"
+
+/* The blocks of a file, back to its bytes. */
+static void back(const char *name, const uint8_t *bytes, size_t length)
+{
+    gazhdor_text blocks = GAZHDOR_NO_TEXT, made = GAZHDOR_NO_TEXT;
+    WANT_OF(gazhdor_messages(bytes, length, &blocks).status == GAZHDOR_GOOD, "%s\n", name);
+    size_t before = memory.held;
+    memory.most = memory.held;
+    WANT_OF(gazhdor_from_messages(blocks.bytes, blocks.length, &made).status == GAZHDOR_GOOD, "%s\n", name);
+    WANT_OF(made.length == length && memcmp(made.bytes, bytes, length) == 0, "%s: %zu bytes of %zu\n", name, made.length, length);
+    WANT_OF(memory.most - before <= 3 * length + 65536, "%s: %zu bytes of memory for %zu\n", name, memory.most - before, length);
+    gazhdor_free(made);
+    WANT_OF(memory.held == before, "%s: %zu bytes left\n", name, memory.held - before);
+    gazhdor_free(blocks);
+}
+
+/* The answer of some blocks while all memory is refused. */
+static void refuses(const char *what, const uint8_t *blocks, size_t length, uint32_t reason)
+{
+    gazhdor_text made = GAZHDOR_NO_TEXT;
+    memory.refuses = 1;
+    gazhdor_answer answer = gazhdor_from_messages(blocks, length, &made);
+    memory.refuses = 0;
+    WANT_OF(answer.status == GAZHDOR_BLOCK && answer.reason == reason && answer.row == 0 && answer.place == 0, "%s: status %u, reason %u\n", what,
+        answer.status, answer.reason);
+    WANT_OF(made.length == 0, "%s\n", what);
+}
+
+static void takes_none(const uint8_t *bytes, size_t length)
+{
+    gazhdor_text blocks = GAZHDOR_NO_TEXT;
+    WANT_OF(gazhdor_messages(bytes, length, &blocks).status == GAZHDOR_GOOD, "the first file\n");
+    uint32_t first;
+    memcpy(&first, blocks.bytes, sizeof first);
+    refuses("no blocks", blocks.bytes, 0, GAZHDOR_BLOCK_CUT);
+    for (uint32_t cut = 1; cut < first; cut++)
+        refuses("a header that is cut", blocks.bytes, cut, GAZHDOR_BLOCK_CUT);
+    refuses("blocks without a header", blocks.bytes + first, blocks.length - first, GAZHDOR_BLOCK_KIND);
+    gazhdor_free(blocks);
+}
+
+int main(int count, char **words)
+{
+    for (int i = 1; i < count; i++) {
+        gazhdor_text file = file_of(words[i], 1 << 20);
+        memory.held = 0;
+        back(words[i], file.bytes, file.length);
+        if (i == 1)
+            takes_none(file.bytes, file.length);
+        free_file(file);
+    }
+    return 0;
+}
