@@ -16,7 +16,11 @@ REASONS = (
 )
 
 BLOCK_REASONS = (
-    ("Cut", "isn't whole: its length isn't a multiple of 8 from 24 on, or goes past the end; or it is missing there, before a file has begun or has ended"),
+    (
+        "Cut",
+        "isn't whole: its length isn't a multiple of 8 from 24 on, or goes past the end; or it is missing there, "
+        "before a file has begun or has ended",
+    ),
     ("Kind", "is of a kind that can't stand there"),
     ("Header", "is a header of a size, a protocol version, a profile version or a kind of checksum that no file has"),
     ("Local", "has a local message type above 15, or above 3 beside a time offset"),
