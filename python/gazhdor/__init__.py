@@ -213,7 +213,8 @@ def from_csv(text: Union[str, bytes, bytearray, memoryview]) -> bytes:
     try:
         _judge(answer)
     except TextRefused as refused:
-        refused.advice = _advice(text if isinstance(text, str) else bytes(text).decode("utf-8", "replace"), refused.row, refused.column)
+        shown = text if isinstance(text, str) else bytes(text).decode("utf-8", "replace")
+        refused.advice = _advice(shown, refused.row, refused.column)
         raise
     return data
 

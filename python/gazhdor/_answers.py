@@ -73,8 +73,11 @@ class Answer(ctypes.Structure):
             f"The byte at {self.place} {self._why[1]}.",
             f"The bytes end at {self.place}, before the file does.",
             "Memory was refused, which says nothing of the bytes.",
-            f"The cell in row {self.row}, column {self.column} isn't allowed there." if self.column else f"Row {self.row} isn't allowed there.",
-            "The rows are those of files that have no bytes: one is too long, or has zeros in place of a checksum of 0.",
+            f"The cell in row {self.row}, column {self.column} isn't allowed there."
+            if self.column
+            else f"Row {self.row} isn't allowed there.",
+            "The rows are those of files that have no bytes: one is too long, or has zeros in place of a checksum of "
+            "0.",
             "The stream is closed.",
             "There is no such kind of stream.",
             f"Block {self.block}, which begins at {self.place}, {self._why[1]}.",

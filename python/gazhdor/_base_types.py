@@ -40,4 +40,6 @@ def base_named(told: Union[str, int]) -> Base:
         return _BY_NAME[told]
     if isinstance(told, int) and not isinstance(told, bool) and 0 <= told <= 255:
         return base_of(told)
-    raise ValueError(f"{told!r} is no base type: {', '.join(_BY_NAME)}, or a code of 0 to 255" if isinstance(told, (str, int)) else "a base type is a name or a code")
+    if not isinstance(told, (str, int)):
+        raise ValueError("a base type is a name or a code")
+    raise ValueError(f"{told!r} is no base type: {', '.join(_BY_NAME)}, or a code of 0 to 255")

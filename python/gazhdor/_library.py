@@ -15,7 +15,8 @@ HERE = os.path.dirname(os.path.abspath(__file__))
 # The module stands in the folder python/ of a tree, unless it was installed; the tree has the library and the version
 # for it.
 TREE = os.path.dirname(os.path.dirname(HERE))
-IN_TREE = os.path.basename(os.path.dirname(HERE)) == "python" and os.path.exists(os.path.join(TREE, "release", "SOURCES"))
+_SOURCES = os.path.join(TREE, "release", "SOURCES")
+IN_TREE = os.path.basename(os.path.dirname(HERE)) == "python" and os.path.exists(_SOURCES)
 
 
 class _Text(ctypes.Structure):
@@ -79,7 +80,8 @@ def _find() -> tuple[str, ctypes.CDLL]:
     try:
         return NAME, ctypes.CDLL(installed)
     except OSError:
-        raise LibraryMissing(f"{beside} isn't there, and the system has no {installed}: install the wheel, or set GAZHDOR_LIBRARY", beside) from None
+        what = f"{beside} isn't there, and the system has no {installed}: install the wheel, or set GAZHDOR_LIBRARY"
+        raise LibraryMissing(what, beside) from None
 
 
 def _load(version: str) -> ctypes.CDLL:

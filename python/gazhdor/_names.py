@@ -119,10 +119,12 @@ class Names:
             self._messages[number], self._numbers[value] = value, number
 
     def _read(self, text: str) -> None:
-        lines = [(number, line) for number, line in enumerate(text.splitlines(), 1) if line and not line.startswith("#")]
+        every = enumerate(text.splitlines(), 1)
+        lines = [(number, line) for number, line in every if line and not line.startswith("#")]
         head = lines[0][1].split("\t") if lines else []
         if "message" not in head or not set(head) <= set(_COLUMNS) or len(set(head)) < len(head):
-            raise ValueError(f"the first line has 'message' and some of {', '.join(_COLUMNS[1:])}, with tabs between them")
+            more = ", ".join(_COLUMNS[1:])
+            raise ValueError(f"the first line has 'message' and some of {more}, with tabs between them")
         for number, line in lines[1:]:
             try:
                 self._read_row(dict(zip(head, line.split("\t"))), line.count("\t") + 1 - len(head))

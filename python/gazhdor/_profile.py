@@ -49,7 +49,8 @@ def profile() -> dict[str, Known]:
     lines = (packed("profile.tsv") or b"").decode().splitlines()
     for line in lines[1:]:
         number, name, field, field_name, unit, scale, offset, base = line.split("\t")
-        known = found.setdefault(name, Known(int(number), {**_OF_ALL, "message_index": 254}, {**_INFO_OF_ALL, **_INDEX}))
+        of_all = {**_OF_ALL, "message_index": 254}, {**_INFO_OF_ALL, **_INDEX}
+        known = found.setdefault(name, Known(int(number), *of_all))
         known.fields[field_name] = int(field)
         known.told[int(field)] = Info(field_name, unit, int(scale), int(offset), base)
     return found
@@ -84,7 +85,8 @@ class UnknownName(KeyError):
     def __init__(self, what: str, name: str, others: Iterable[str], more: str = "") -> None:
         super().__init__(what, name)
         self.name = name
-        self._others: tuple[str, ...] = tuple(itertools.islice((other for other in others if len(other) <= _MOST_LETTERS), _MOST_NAMES))
+        short = (other for other in others if len(other) <= _MOST_LETTERS)
+        self._others: tuple[str, ...] = tuple(itertools.islice(short, _MOST_NAMES))
         self._what, self._more = what, more
 
     @property
@@ -107,10 +109,17 @@ def see_messages(kinds: Iterable[object], names: "Optional[Names]" = None) -> No
     own = names.messages if names else {}
     for kind in kinds:
         if isinstance(kind, str) and kind not in profile() and kind not in own:
-            raise UnknownName("no message is named", kind, [*profile(), *own], "; one that has no name is asked for by its number")
+            more = "; one that has no name is asked for by its number"
+            raise UnknownName("no message is named", kind, [*profile(), *own], more)
 
 
-def see_fields(message: Kind, asked: Iterable[object], found: "Iterable[Definition]", own: Iterable[str] = (), names: "Optional[Names]" = None) -> None:
+def see_fields(
+    message: Kind,
+    asked: Iterable[object],
+    found: "Iterable[Definition]",
+    own: Iterable[str] = (),
+    names: "Optional[Names]" = None,
+) -> None:
     """Raises UnknownName for a name of a field that the profile hasn't for this message, nor the caller, nor one of the
     definitions that the file has of it. Names that begin with a dot are those of `own`. Numbers, and (index, number),
     are good."""
@@ -126,7 +135,8 @@ def see_fields(message: Kind, asked: Iterable[object], found: "Iterable[Definiti
             known = _known(message, names)
             known.update((name, 0) for definition in found for name in definition.by_key if isinstance(name, str))
         if key not in known:
-            raise UnknownName(f"neither the profile nor the file has in {_called(message)} a field", key, known, "; one that has no name is asked for by its number")
+            what = f"neither the profile nor the file has in {_called(message)} a field"
+            raise UnknownName(what, key, known, "; one that has no name is asked for by its number")
 
 
 def number_of(message: Kind, names: "Optional[Names]" = None) -> Optional[int]:

@@ -54,7 +54,15 @@ class WrongValue(ValueError):
     `least` and `most` what the field can have, in its unit, or None where it has no numbers; `row` is the row of a
     column, counted from 0, else None."""
 
-    def __init__(self, what: str, field: Any, value: Any, least: Any = None, most: Any = None, row: Optional[int] = None) -> None:
+    def __init__(
+        self,
+        what: str,
+        field: Any,
+        value: Any,
+        least: Any = None,
+        most: Any = None,
+        row: Optional[int] = None,
+    ) -> None:
         super().__init__(what, field)
         self.what, self.field, self.value, self.least, self.most, self.row = what, field, value, least, most, row
 

@@ -119,7 +119,8 @@ class Part:
             return self.rows
         if self._where is None:
             counts = numpy.array(self.counts)
-            self._where = numpy.repeat(numpy.array(self.before) - (numpy.cumsum(counts) - counts), counts) + numpy.arange(self.messages)
+            begins = numpy.repeat(numpy.array(self.before) - (numpy.cumsum(counts) - counts), counts)
+            self._where = begins + numpy.arange(self.messages)
         return self._where
 
     def put(self, column: list[Any], values: list[Any]) -> None:
@@ -168,10 +169,13 @@ def told(cell: Cell, items: list[Any], numbers: list[Any]) -> list[Any]:
         numbers = list(map(degrees, numbers))
     elif entry.is_scaled:
         value, scale = as_value(entry), entry.scale
-        numbers = [number / scale for number in numbers] if entry.offset == 0 and scale != 1 else list(map(value, numbers))
+        is_lone = entry.offset == 0 and scale != 1
+        numbers = [number / scale for number in numbers] if is_lone else list(map(value, numbers))
     if form in (DATE, LOCAL):
         return [None if item == entry.invalid else _time(number, form == LOCAL) for item, number in zip(items, numbers)]
-    return [None if item == entry.invalid else number for item, number in zip(items, numbers)] if entry.invalid in items else numbers
+    if entry.invalid not in items:
+        return numbers
+    return [None if item == entry.invalid else number for item, number in zip(items, numbers)]
 
 
 def _time(seconds: Any, is_local: bool) -> Any:
@@ -253,7 +257,8 @@ class Table:
             self._add(definition, part)
             part.drop()
         if asked.fields is not None:
-            see_fields(asked.message, [key for key in self._keys if key not in self._found], self._first, _ATTRIBUTES, asked.names)
+            missing = [key for key in self._keys if key not in self._found]
+            see_fields(asked.message, missing, self._first, _ATTRIBUTES, asked.names)
             return
         cells = len(self.keys) * self.rows
         if cells > _FEW_CELLS and cells > _MOST_EMPTY * self._filled:
@@ -284,7 +289,8 @@ class Table:
         entry = cell.entry
         if entry.index is not None and isinstance(key, str):
             self._developer.setdefault(key, entry.key)
-        return self._alike.setdefault((entry.kind, entry.width, entry.is_number, entry.scale, entry.offset, entry.invalid, cell.form), cell)
+        told_by = entry.kind, entry.width, entry.is_number, entry.scale, entry.offset, entry.invalid, cell.form
+        return self._alike.setdefault(told_by, cell)
 
     @property
     def keys(self) -> list[Key]:

@@ -19,7 +19,8 @@ def _needed(name: str) -> Any:
     try:
         return importlib.import_module(name)
     except ModuleNotFoundError as error:
-        raise ModuleNotFoundError(f"this call of gazhdor needs {name}, which isn't installed: pip install {name}", name=error.name) from None
+        what = f"this call of gazhdor needs {name}, which isn't installed: pip install {name}"
+        raise ModuleNotFoundError(what, name=error.name) from None
 
 
 def _asked(message: Kind, fields: Optional[Iterable[Key]], times: bool, names: Told) -> Asked:
@@ -42,7 +43,13 @@ def _list(table: Table, pieces: list[Piece]) -> list[Any]:
 
 
 def lists(
-    source: Source, message: Kind, fields: Optional[Iterable[Key]] = None, partial: bool = False, *, times: bool = False, names: Told = None
+    source: Source,
+    message: Kind,
+    fields: Optional[Iterable[Key]] = None,
+    partial: bool = False,
+    *,
+    times: bool = False,
+    names: Told = None,
 ) -> dict[Key, list[Any]]:
     """Returns a list for each of the fields, with the value in each message of one name or number, in their order: the
     values are those of `Message`, and None where a message has no such field. So `zip(*lists.values())` are rows.
@@ -160,7 +167,13 @@ class _Arrays:
 
 
 def columns(
-    source: Source, message: Kind, fields: Optional[Iterable[Key]] = None, partial: bool = False, *, times: bool = False, names: Told = None
+    source: Source,
+    message: Kind,
+    fields: Optional[Iterable[Key]] = None,
+    partial: bool = False,
+    *,
+    times: bool = False,
+    names: Told = None,
 ) -> dict[Key, Any]:
     """Returns a numpy array for each of the fields, with the value in each message of one name or number, in their
     order.
@@ -178,7 +191,13 @@ def columns(
 
 
 def frame(
-    source: Source, message: Kind, fields: Optional[Iterable[Key]] = None, partial: bool = False, *, times: bool = False, names: Told = None
+    source: Source,
+    message: Kind,
+    fields: Optional[Iterable[Key]] = None,
+    partial: bool = False,
+    *,
+    times: bool = False,
+    names: Told = None,
 ) -> Any:
     """Returns the arrays of `columns` as a DataFrame of pandas, a row for each message. The labels are the names, where
     there is none `field_N`, or `dev_I_N`, I being the developer data index; so is the label of a developer field whose

@@ -31,7 +31,8 @@ from .messages import Message
 from .native_fields import Natives
 from .values import Definition
 
-_FRONT, _FILE, _PLACE = struct.Struct("<IBBB").unpack_from, struct.Struct("<I").unpack_from, struct.Struct("<Q").unpack_from
+_FRONT, _FILE = struct.Struct("<IBBB").unpack_from, struct.Struct("<I").unpack_from
+_PLACE = struct.Struct("<Q").unpack_from
 _DATA, _PROFILE = struct.Struct("<I").unpack_from, struct.Struct("<Q").unpack_from
 
 

@@ -30,7 +30,8 @@ def _known(definition: Definition) -> _Known:
         fields = [(f",{_text(name)}:", entry.read) for name, entry in definition.labels.items()]
         if fields:
             fields[0] = fields[0][0][1:], fields[0][1]
-        known = definition.made["json"] = _Known(f'{{"message":{name},"number":{definition.number},"file":', fields, f'}},"units":{_text(units)}}}')
+        front = f'{{"message":{name},"number":{definition.number},"file":'
+        known = definition.made["json"] = _Known(front, fields, f'}},"units":{_text(units)}}}')
     return known
 
 
@@ -62,7 +63,8 @@ def line(message: Message) -> str:
     of its fields, and their units. A field without a name is `field_N`, or `dev_I_N`, I being its developer data
     index."""
     block, known = message._block, _known(message._definition)
-    parts = [known.front, f'{message.file},"place":{message.place},"local":{message.local},"time":{_time(message.time)}']
+    where = f'{message.file},"place":{message.place},"local":{message.local}'
+    parts = [known.front, f'{where},"time":{_time(message.time)}']
     if message._definition.is_counted:
         for name in ("speed", "distance", "total_cycles", "accumulated_power"):
             amount = getattr(message, name)

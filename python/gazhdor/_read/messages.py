@@ -38,7 +38,8 @@ def _time_of(entry: Entry, block: bytes) -> Optional[Time]:
     """The time of a field that is one: one by the clock of the place has no zone."""
     seconds: Any = entry.read(block)
     time = when(seconds)
-    return time.replace(tzinfo=None) if entry.type == "local_date_time" and isinstance(time, datetime.datetime) else time
+    is_local = entry.type == "local_date_time" and isinstance(time, datetime.datetime)
+    return time.replace(tzinfo=None) if is_local else time  # type: ignore[union-attr]
 
 
 def _tell_time(block: bytearray, at: int) -> None:
@@ -116,7 +117,8 @@ class Field:
 
     def _all(self) -> tuple[Any, ...]:
         of = self._entry
-        return of.name, of.number, of.index, of.native, of.unit, of.kind, of.width, of.scale, of.offset, of.invalid, self.raw
+        shape = of.kind, of.width, of.scale, of.offset, of.invalid
+        return (of.name, of.number, of.index, of.native, of.unit, *shape, self.raw)
 
     def __eq__(self, other: object) -> bool:
         if not isinstance(other, Field):
@@ -130,7 +132,8 @@ class Field:
         return Field, (self._block, self._entry)
 
     def __repr__(self) -> str:
-        return f"<gazhdor.Field {label(self.name or self._entry.key)}={self.value!r}{f' {self.unit}' if self.unit else ''}>"
+        unit = f" {self.unit}" if self.unit else ""
+        return f"<gazhdor.Field {label(self.name or self._entry.key)}={self.value!r}{unit}>"
 
 
 class Message(Mapping[Key, Any]):
@@ -162,7 +165,8 @@ class Message(Mapping[Key, Any]):
         if not isinstance(key, str) or self._is_known(key):
             return KeyError(key)
         others = [*self._definition.labels, *fields_of(self.number), *self._definition.names]
-        return UnknownName(f"neither the profile nor this {self.name or f'message {self.number}'} has a field", key, others)
+        of = self.name or f"message {self.number}"
+        return UnknownName(f"neither the profile nor this {of} has a field", key, others)
 
     def _is_known(self, key: Key) -> bool:
         return not isinstance(key, str) or self._definition.number_of(key) is not None
@@ -202,7 +206,9 @@ class Message(Mapping[Key, Any]):
         if key not in self._definition.readers and not self._is_known(key):
             raise self._missing(key)
         value = self.get(key)
-        return tuple(item for item in value if item is not None) if isinstance(value, tuple) else () if value is None else (value,)
+        if isinstance(value, tuple):
+            return tuple(item for item in value if item is not None)
+        return () if value is None else (value,)
 
     def replace(self, values: Optional[Mapping[Key, Any]] = None, **fields: Any) -> "Message":
         """Returns the message with other values of some of its fields, which are named as for `message[..]`, those that
@@ -238,7 +244,9 @@ class Message(Mapping[Key, Any]):
         the profile nor the caller has such a name."""
         number = self._definition.number_of(key)
         if number is None:
-            raise UnknownName("the profile has no field", key, [*fields_of(self.number), *self._definition.names]) if isinstance(key, str) else KeyError(key)
+            if not isinstance(key, str):
+                raise KeyError(key)
+            raise UnknownName("the profile has no field", key, [*fields_of(self.number), *self._definition.names])
         for entry in self._definition.entries:
             if entry.native == number and entry.index is not None:
                 value = entry.read(self._block)
@@ -377,7 +385,8 @@ class Message(Mapping[Key, Any]):
     def _repr_html_(self) -> str:
         """The fields as a table, for notebooks."""
         rows = [(name, value, self._definition.labels[name].unit or "") for name, value in self.as_dict().items()]
-        cells = "".join("<tr>" + "".join(f"<td>{html.escape(str(cell))}</td>" for cell in row) + "</tr>" for row in rows)
+        told = ("".join(f"<td>{html.escape(str(cell))}</td>" for cell in row) for row in rows)
+        cells = "".join(f"<tr>{row}</tr>" for row in told)
         title = html.escape(f"{self.name or f'message {self.number}'} {self.time or ''}".strip())
         return f"<table><caption>{title}</caption><tr><th>field</th><th>value</th><th>unit</th></tr>{cells}</table>"
 

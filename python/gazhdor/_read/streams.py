@@ -53,7 +53,9 @@ class Stream(Generic[Made]):
         @overload
         def __init__(self: "Stream[bytes]", kind: Literal["blocks"]) -> None: ...
         @overload
-        def __init__(self: "Stream[list[Message]]", kind: Literal["messages"], only: Only = None, names: Told = None) -> None: ...
+        def __init__(
+            self: "Stream[list[Message]]", kind: Literal["messages"], only: Only = None, names: Told = None
+        ) -> None: ...
 
     def __init__(self, kind: str, only: Only = None, names: Told = None) -> None:
         if kind not in _KINDS:
@@ -227,12 +229,18 @@ def blocks(source: Source, partial: bool = False) -> bytes:
 if TYPE_CHECKING:
 
     @overload
-    def messages(source: Source, only: Only = None, partial: bool = False, names: Told = None, everything: Literal[False] = False) -> Iterator[Message]: ...
+    def messages(
+        source: Source, only: Only = None, partial: bool = False, names: Told = None, everything: Literal[False] = False
+    ) -> Iterator[Message]: ...
     @overload
-    def messages(source: Source, only: None = None, partial: bool = False, names: Told = None, *, everything: Literal[True]) -> Iterator[Everything]: ...
+    def messages(
+        source: Source, only: None = None, partial: bool = False, names: Told = None, *, everything: Literal[True]
+    ) -> Iterator[Everything]: ...
 
 
-def messages(source: Source, only: Only = None, partial: bool = False, names: Told = None, everything: bool = False) -> Iterator[Any]:
+def messages(
+    source: Source, only: Only = None, partial: bool = False, names: Told = None, everything: bool = False
+) -> Iterator[Any]:
     """Yields a Message for each data message; with `only`, a name or a number or several of these, for such messages
     alone, and makes nothing of the others. The source is read, piece by piece, as messages are asked for. With
     `partial` a fault is raised after the messages before it, else before the first message, as `Refused` or

@@ -63,7 +63,8 @@ class Entry:
     invalid: int
 
     __slots__ = (
-        "size", "name", "unit", "number", "index", "base", "kind", "width", "count", "decimals", "begins", "scale", "offset", "invalid", "read",
+        "size", "name", "unit", "number", "index", "base", "kind", "width", "count", "decimals", "begins", "scale",
+        "offset", "invalid", "read",
         "type", "native", "_told",
     )  # fmt: skip
 
@@ -102,6 +103,11 @@ class Entry:
     def is_number(self) -> bool:
         """Whether it is one number, and not several, a text or bytes."""
         return self.kind <= FLOAT and self.count == 1
+
+    @property
+    def is_place(self) -> bool:
+        """Whether it may be a latitude or a longitude: one whole number of 32 bits with a sign."""
+        return self.index is None and self.kind == SIGNED and self.width == 4 and self.count == 1
 
     @property
     def is_scaled(self) -> bool:
@@ -303,7 +309,9 @@ def first_entry(data: bytes) -> int:
 class Definition:
     """What the messages of a definition have: the number and name of the message, and its fields, each by its keys."""
 
-    __slots__ = ("data", "number", "name", "is_counted", "entries", "by_key", "readers", "keys", "labels", "made", "_told")
+    __slots__ = (
+        "data", "number", "name", "is_counted", "entries", "by_key", "readers", "keys", "labels", "made", "_told",
+    )  # fmt: skip
 
     def __init__(self, data: bytes, told: Beside = NOTHING) -> None:
         self.data, self._told = data, told
@@ -331,7 +339,8 @@ class Definition:
         at = first_entry(data)
         entries: list[Entry] = []
         for _ in range(count):
-            number, developer, index = data[at + AT_ENTRY_NUMBER], data[at + AT_ENTRY_DEVELOPER], data[at + AT_ENTRY_INDEX]
+            number, developer = data[at + AT_ENTRY_NUMBER], data[at + AT_ENTRY_DEVELOPER]
+            index = data[at + AT_ENTRY_INDEX]
             if developer:
                 entries.append(Entry(data, at, native=natives.get((index, number))))
             else:
@@ -353,7 +362,7 @@ class Definition:
         """The latitude and the longitude of its messages, in semicircles; of a session or a lap those of its start."""
         for names in _POSITIONS:
             lat, long = map(self.by_key.get, names)
-            if lat and long and all(entry.index is None and entry.kind == SIGNED and entry.width == 4 and entry.count == 1 for entry in (lat, long)):
+            if lat and long and lat.is_place and long.is_place:
                 return lat, long
         return None
 
@@ -375,7 +384,10 @@ class Definition:
 
     def is_same(self, other: "Definition") -> bool:
         """Whether messages of both, where they have the same bytes, are the same."""
-        return self is other or (self.data[AT_DEFINITION_MESSAGE:] == other.data[AT_DEFINITION_MESSAGE:] and self._told == other._told)
+        if self is other:
+            return True
+        at = AT_DEFINITION_MESSAGE
+        return self.data[at:] == other.data[at:] and self._told == other._told
 
     def __reduce__(self) -> Any:
         return Definition, (self.data, self._told)

@@ -23,7 +23,13 @@ _FLOATS = {base.code: base.width for base in BASES if base.kind == FLOAT}
 # Of each row what its cells may be, from the second on, where that needs nothing of the rows before.
 _HEAD = "row,a,b,c,d,e,f"
 _CELLS = {
-    "file": ("12, or 14 to 255", "0 to 47", "0 to 65535", "none, where the header has 12 bytes, else sum or zero", "0x and two capital hexadecimal digits for each byte of the header after the fourteenth"),
+    "file": (
+        "12, or 14 to 255",
+        "0 to 47",
+        "0 to 65535",
+        "none, where the header has 12 bytes, else sum or zero",
+        "0x and two capital hexadecimal digits for each byte of the header after the fourteenth",
+    ),
     "def": ("0 to 15", "0 to 255", "little or big", "0 to 65535", "0 to 255", "0 to 255, or empty"),
     "fdef": ("0 to 255", "0 to 255", "0 to 255"),
     "ddef": ("0 to 255", "0 to 255", "0 to 255"),
@@ -153,7 +159,8 @@ def _of_data(rows: _Rows, cells: list[str]) -> tuple[str, ...]:
     local = ", ".join(map(str, sorted(rows.numbers))) or "none, as nothing is defined"
     number = next((number for local, number in rows.numbers.items() if str(local) == cells[1]), None)
     name = "" if number is None else f"the message is {name_of(number) or f'message_{number}'}"
-    return f"a local message type that is defined: {local}", "0 to 31, or empty", name, "the time that the rows before give, or empty"
+    of = f"a local message type that is defined: {local}"
+    return of, "0 to 31, or empty", name, "the time that the rows before give, or empty"
 
 
 def _of_field(rows: _Rows, value: str) -> tuple[str, ...]:
@@ -163,7 +170,8 @@ def _of_field(rows: _Rows, value: str) -> tuple[str, ...]:
     else:
         _, name, unit = rows.described.get((field.developer, field.number), (0, "", ""))
         told = _NO_INFO._replace(name=name or f"dev_{field.developer}_{field.number}", unit=unit)
-    return f"the name is {told.name}", _of_value(field, told, value), f"the unit is {told.unit}" if told.unit else "an empty cell"
+    unit = f"the unit is {told.unit}" if told.unit else "an empty cell"
+    return f"the name is {told.name}", _of_value(field, told, value), unit
 
 
 def _of_value(field: _Field, told: Info, value: str) -> str:
@@ -186,7 +194,8 @@ def _of_number(item: str, code: int, told: Info) -> Optional[str]:
     """What would do in place of a number; None where it is good."""
     width, has_sign, invalid = _WHOLE[code]
     least, most = (-(2 ** (8 * width - 1)), 2 ** (8 * width - 1) - 1) if has_sign else (0, 256**width - 1)
-    decimals = next(count for count in range(10) if 10**count % told.scale == 0) if (told.scale, told.offset) != (1, 0) else 0
+    is_scaled = (told.scale, told.offset) != (1, 0)
+    decimals = next(count for count in range(10) if 10**count % told.scale == 0) if is_scaled else 0
 
     def shown(raw: int) -> str:
         return str(Decimal((raw - told.scale * told.offset) * 10**decimals // told.scale).scaleb(-decimals))

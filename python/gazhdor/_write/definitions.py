@@ -119,7 +119,8 @@ def definition_block(message: int, forms: Iterable[Form], kept: Kept = Kept()) -
     rest = _text(name_of(message) or "") + b"".join(entries)
     says = developers > 0 if kept.says_developers is None else kept.says_developers
     counts = message, len(entries) - developers, developers, SAYS_DEVELOPERS if says else 0
-    return _DEFINITION.pack(AT_DEFINITION_NAME + len(rest), DEFINITION, kept.local, kept.big, kept.reserved, 0, begins, 0, 0, *counts) + rest
+    front = AT_DEFINITION_NAME + len(rest), DEFINITION, kept.local, kept.big, kept.reserved, 0, begins, 0, 0
+    return _DEFINITION.pack(*front, *counts) + rest
 
 
 class Layouts:

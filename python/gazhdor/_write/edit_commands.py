@@ -75,14 +75,18 @@ def _do(command: str, asked: _Asked) -> tuple[int, str]:
             join(sources, sink, asked.one)
             return 0, ""
         counts = edit(sources[0], sink, asked.change)
-    return 0, "".join(f"emptied: {message} {field}, {count} times\n" for (message, field), count in sorted(counts.items()))
+    emptied = sorted(counts.items())
+    return 0, "".join(f"emptied: {message} {field}, {count} times\n" for (message, field), count in emptied)
 
 
 def run(words: list[str]) -> int:
     """Does what the words say, and returns the exit status. Where it isn't 0, nothing is written."""
     try:
         asked = _asked(words[1:])
-        is_well = len(asked.paths) == 2 and not asked.one if words[0] == "edit" else len(asked.paths) > 2 and asked.change == Change()
+        if words[0] == "edit":
+            is_well = len(asked.paths) == 2 and not asked.one
+        else:
+            is_well = len(asked.paths) > 2 and asked.change == Change()
         if not is_well:
             raise ValueError("it takes IN and OUT" if words[0] == "edit" else "it takes two FILEs or more, and OUT")
     except ValueError as error:

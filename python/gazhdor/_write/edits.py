@@ -64,7 +64,8 @@ def _is_of(word: str, definition: Definition, entry: Entry) -> bool:
 
 def _known_names() -> set[str]:
     names = {name for known in profile().values() for name in known.fields}
-    return names.union(named.name for number in EXTRA.messages.values() for named in EXTRA.fields(number).values() if named.name)
+    told = (named for number in EXTRA.messages.values() for named in EXTRA.fields(number).values())
+    return names.union(named.name for named in told if named.name)
 
 
 class _Plan(NamedTuple):
@@ -139,7 +140,8 @@ def _moved(item: bytearray, shift: int, field: str) -> bytes:
     if time == NO_TIME or time < SYSTEM_TIMES:
         return bytes(item)
     if not SYSTEM_TIMES <= time + shift < NO_TIME:
-        raise WrongValue(f"{time} seconds, moved by {shift}, are no time any more", field, time + shift, SYSTEM_TIMES, NO_TIME - 1)
+        what = f"{time} seconds, moved by {shift}, are no time any more"
+        raise WrongValue(what, field, time + shift, SYSTEM_TIMES, NO_TIME - 1)
     return (time + shift).to_bytes(4, "little")
 
 
@@ -188,8 +190,11 @@ def join(sources: Iterable[Source], sink: Sink, one: bool = False) -> None:
             before = anew.end
             anew.begin_lap()
             for event in _of_one(messages(source, names=EXTRA, everything=True), number, anew):
-                if isinstance(event, Message) and event.number == RECORD and before is not None and event.seconds is not None and event.seconds < before:
-                    raise ValueError(f"file {number + 1} begins before the one before it ends: name them in the order of their times")
+                is_record = isinstance(event, Message) and event.number == RECORD
+                seconds = event.seconds if is_record else None
+                if before is not None and seconds is not None and seconds < before:
+                    what = f"file {number + 1} begins before the one before it ends"
+                    raise ValueError(f"{what}: name them in the order of their times")
                 out.copy(event)
         anew.write(out)
 

@@ -68,7 +68,8 @@ def message_number(message: Kind, names: Optional[Names]) -> int:
         raise TypeError(f"a message is named by its name or its number, and not by {type(message).__name__}")
     number = number_of(message, names)
     if number is None:
-        raise UnknownName("no message is named", str(message), [*profile(), *(names.messages if names else ())], "; one that has no name is named by its number")
+        more = "; one that has no name is named by its number"
+        raise UnknownName("no message is named", str(message), [*profile(), *(names.messages if names else ())], more)
     if not 0 <= number <= 0xFFFF:
         raise ValueError(f"a message is 0 to 65535, and not {number}" if number < 2**64 else "a message is 0 to 65535")
     return number
@@ -108,14 +109,17 @@ class Shapes:
 
     def one(self, spec: Spec) -> Shape:
         if isinstance(spec, FieldDefinition):
-            return Shape(spec.key, base_of(spec.base), byte("a size", spec.size), byte("a field", spec.number), spec.developer, self._info(spec.key))
+            size, number = byte("a size", spec.size), byte("a field", spec.number)
+            return Shape(spec.key, base_of(spec.base), size, number, spec.developer, self._info(spec.key))
         key: Any = spec
         told: Any = None
         count: Any = None
         if isinstance(spec, tuple) and not isinstance(spec, DeveloperField) and not _is_numbers(spec):
             key, told, count = (*spec, None)[:3]
         shape = self._developer(key, told) or self._field(key, told)
-        return shape if count is None else shape._replace(size=byte("a size", byte("a count", count) * shape.base.width))
+        if count is None:
+            return shape
+        return shape._replace(size=byte("a size", byte("a count", count) * shape.base.width))
 
     def _info(self, key: Key) -> Optional[Info]:
         developer = self._developers.get(key) if isinstance(key, tuple) else None
@@ -133,14 +137,16 @@ class Shapes:
             return None
         if told is not None and base_named(told).code != found.base:
             raise ValueError(f"{found.name!r} is described as {base_of(found.base).name}")
-        return Shape(found.key, base_of(found.base), None, found.number, found.developer, Info(found.name, found.unit, 1, 0, ""))
+        info = Info(found.name, found.unit, 1, 0, "")
+        return Shape(found.key, base_of(found.base), None, found.number, found.developer, info)
 
     def _field(self, key: Any, told: Any) -> Shape:
         if isinstance(key, str):
             known = _known(self._message, self._names)
             if key not in known:
                 of = name_of(self._message) or f"message {self._message}"
-                raise UnknownName(f"neither the profile nor the file has in {of} a field", key, [*known, *(name for name in self._developers if isinstance(name, str))])
+                others = [*known, *(name for name in self._developers if isinstance(name, str))]
+                raise UnknownName(f"neither the profile nor the file has in {of} a field", key, others)
             number = known[key]
         else:
             number = byte("a field", key)

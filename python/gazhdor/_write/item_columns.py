@@ -23,7 +23,8 @@ def listed(columns: Mapping[Any, Any]) -> dict[Any, Any]:
         found[key] = column if is_array(column) else list(column)
     lengths = {key: len(column) for key, column in found.items()}
     if len(set(lengths.values())) > 1:
-        raise ValueError(f"the columns have different lengths: {', '.join(f'{key} {length}' for key, length in lengths.items())}")
+        told = ", ".join(f"{key} {length}" for key, length in lengths.items())
+        raise ValueError(f"the columns have different lengths: {told}")
     return found
 
 
@@ -67,7 +68,10 @@ def _items_of_list(pack: Packer, column: list[Any]) -> Any:
         for row, value in enumerate(column):
             made += _of_row(pack, pack, _none_of_nan(value), row)
         return array.array(entry.float_code, bytes(made))
-    return array.array(entry.item_code, _quick(pack, column) or [_of_row(pack, pack.item, _none_of_nan(value), row) for row, value in enumerate(column)])
+    items = _quick(pack, column)
+    if not items:
+        items = [_of_row(pack, pack.item, _none_of_nan(value), row) for row, value in enumerate(column)]
+    return array.array(entry.item_code, items)
 
 
 def _none_of_nan(value: Any) -> Any:

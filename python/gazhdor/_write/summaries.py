@@ -82,7 +82,12 @@ class Summary:
         """The fields that a lap and a session have alike."""
         start, end = self.span or (0, 0)
         ran = self._timer.ran(start, end)
-        found: dict[str, Any] = {"timestamp": end, "start_time": start, "total_elapsed_time": float(end - start), "total_timer_time": float(ran)}
+        found: dict[str, Any] = {
+            "timestamp": end,
+            "start_time": start,
+            "total_elapsed_time": float(end - start),
+            "total_timer_time": float(ran),
+        }
         if self._places:
             found["start_position_lat"], found["start_position_long"] = self._places[0]
         if self._distances:
@@ -153,7 +158,12 @@ class Anew:
         told = self._whole.told()
         _write(out, "session", {"message_index": 0, **told, **self._sport, **counts})
         local = {} if self._zone is None else {"local_timestamp": told["timestamp"] + self._zone}
-        activity = {"timestamp": told["timestamp"], "total_timer_time": told["total_timer_time"], "num_sessions": 1, "type": 0}
+        activity = {
+            "timestamp": told["timestamp"],
+            "total_timer_time": told["total_timer_time"],
+            "num_sessions": 1,
+            "type": 0,
+        }
         _write(out, "activity", {**activity, "event": _OF_ACTIVITY, "event_type": _STOP, **local})
 
 

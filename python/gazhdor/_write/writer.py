@@ -20,7 +20,6 @@ from .._profile import Kind
 from .._read.events import DefinitionMessage, Everything, FileEnd, FileHeader
 from .._read.messages import Message
 from .._read.native_fields import DESCRIPTION, DEVELOPER_DATA, OF_DEVELOPERS, lone_number
-from .._read.values import Key
 from .._read.values import Definition as Known
 from .._times import OWN_TIME
 from ..errors import BlocksRefused, judge
@@ -90,7 +89,14 @@ class Writer:
 
     # ---- what is written
 
-    def file(self, protocol: int = 0x20, profile: int = _PROFILE, size: int = 14, checksum: str = "there", more: bytes = b"") -> None:
+    def file(
+        self,
+        protocol: int = 0x20,
+        profile: int = _PROFILE,
+        size: int = 14,
+        checksum: str = "there",
+        more: bytes = b"",
+    ) -> None:
         """Begins a file, which ends the one before it: the next of a chain. The first begins by itself, as this without
         arguments. The header has that size, of which `more` is what comes after place 14; its checksum is 'there',
         'zeros' or 'none', as only one of 12 bytes can."""
@@ -153,7 +159,11 @@ class Writer:
         with the first field of an index."""
         known = [of.number for of in self._developers.values() if of.developer == index]
         field = max(known, default=-1) + 1 if number is None else number
-        told: dict[Any, Any] = {"developer_data_index": index, "field_definition_number": field, "fit_base_type_id": base_named(base).code}
+        told: dict[Any, Any] = {
+            "developer_data_index": index,
+            "field_definition_number": field,
+            "fit_base_type_id": base_named(base).code,
+        }
         told.update({"field_name": name, "units": unit or None})
         fields: list[Spec] = list(told)
         if native is not None:
@@ -162,7 +172,8 @@ class Writer:
         definition = self.define(DESCRIPTION, fields)
         definition.see(told)
         if index not in self._indices:
-            self.write(DEVELOPER_DATA, {"developer_data_index": index, **({"application_id": application} if application else {})})
+            own = {"application_id": application} if application else {}
+            self.write(DEVELOPER_DATA, {"developer_data_index": index, **own})
             self._indices.add(index)
         definition.write(told)
         return self._developers[index, field]
@@ -279,7 +290,8 @@ class Writer:
                 known = self._developers.get(field.key)
                 base = field._replace(base=known.base if known else BYTE.code).shape
                 if base.width != field.shape.width:
-                    raise ValueError(f"the developer field {field.key} isn't described in this file as where it comes from: copy its description first")
+                    what = f"the developer field {field.key} isn't described in this file as where it comes from"
+                    raise ValueError(f"{what}: copy its description first")
 
     def _learn(self, definition: Known, block: Union[bytes, bytearray]) -> None:
         """Takes in what a description, or the message of an application, says."""
@@ -291,4 +303,5 @@ class Writer:
             if index is not None and number is not None and base is not None:
                 told = Message(data, definition)
                 name, unit = (str(told.get(key) or "") for key in (3, 8))
-                self._developers[index, number] = self._developers[name] = DeveloperField(index, number, name, unit, base)
+                of = DeveloperField(index, number, name, unit, base)
+                self._developers[index, number] = self._developers[name] = of
