@@ -6,7 +6,7 @@ import sys
 import time
 
 import gazhdor
-from gazhdor._json import line
+from gazhdor._read.json_lines import line
 
 PATH, KIND, ROUNDS = sys.argv[1], sys.argv[2], int(sys.argv[3])
 THREE = ["timestamp", "heart_rate", "speed"]

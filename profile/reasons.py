@@ -1,5 +1,7 @@
 """What says in words why a byte is refused, profile/reasons.tsv, and why a block can't be written, profile/block_reasons.tsv: the page of the
 program, documents, and each language."""
+import textwrap
+
 from tables import LINE, filled, put, read, reasons
 
 C_REASONS = """/* Why a byte is refused, and why a block can't be written, in words. Written by profile/make. */
@@ -56,6 +58,14 @@ impl {type} {
 """
 
 
+# how long a line of Python may be
+PYTHON_LINE = 120
+PYTHON_REASONS = '''"""Why a byte is refused, and why a block can't be written: each reason, by its number from 1, with what it says of the
+byte or the block. Written by profile/make."""
+
+'''
+
+
 def rust_arm(case, text):
     short = f'            {case} => "{text}",\n'
     return short if len(short) <= 121 else f'            {case} => {{\n                "{text}"\n            }}\n'
@@ -73,8 +83,18 @@ def c_cases(texts):
     return ''.join(f'    case {number}: return "{text}";\n' for number, text in enumerate(texts, 1))
 
 
+def python_row(reason, words):
+    """A row of the table in Python, in as many lines as it needs."""
+    row = f'    ("{reason}", "{words}"),\n'
+    if len(row) <= PYTHON_LINE + 1:
+        return row
+    first, *more = textwrap.wrap(words, PYTHON_LINE - 16, drop_whitespace=False)
+    parts = ''.join(f'        "{part}"\n' for part in more)
+    return f'    (\n        "{reason}",\n        "{first}"\n{parts[:-1]},\n    ),\n'
+
+
 def python_table(name, rows):
-    return f'{name} = (\n' + ''.join(f'    ("{reason}", "{words}"),\n' for reason, words in rows) + ')\n'
+    return f'{name} = (\n' + ''.join(python_row(reason, words) for reason, words in rows) + ')\n'
 
 
 def javascript(rows):
@@ -100,8 +120,7 @@ def wanted():
     yield path, put(read(path), 'The reason says of it that it\n', page, '.SH EXAMPLES')
     path = 'docs/USE.md'
     yield path, put(read(path), '| Reason | The byte |\n|---|---|\n', ''.join(f'| `{name}` | {words} |\n' for name, words in rows), '\n**What users send')
-    yield 'python/gazhdor/_reasons.py', ('"""Why a byte is refused, and why a block can\'t be written: each reason, by its number from 1, with what it says of the byte or\n'
-                                         'the block. Written by profile/make."""\n\n' + python_table('REASONS', rows) + '\n' + python_table('BLOCK_REASONS', of_blocks))
+    yield 'python/gazhdor/_reasons.py', PYTHON_REASONS + python_table('REASONS', rows) + '\n' + python_table('BLOCK_REASONS', of_blocks)
     yield 'c/gazhdor_reasons.h', filled(C_REASONS, bytes=c_cases(f'the byte {words}' for _, words in rows), names=c_cases(name for name, _ in of_blocks),
                                         blocks=c_cases(f'the block {words}' for _, words in of_blocks))
     path = 'docs/C.md'

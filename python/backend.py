@@ -17,7 +17,7 @@ Name: gazhdor
 Version: {version}
 Summary: Checks and converts FIT files, by a proved library
 License: MIT
-Requires-Python: >=3.7
+Requires-Python: >=3.9
 Classifier: License :: OSI Approved :: MIT License
 Classifier: Operating System :: POSIX :: Linux
 Classifier: Programming Language :: Python :: 3
@@ -65,6 +65,16 @@ def _tag(library, processor):
     return f"py3-none-manylinux_2_{minor}_{processor}"
 
 
+def _modules():
+    """Each file of the folder gazhdor/ and of those in it, by its name there."""
+    top = os.path.join(HERE, "gazhdor")
+    for folder, folders, names in os.walk(top):
+        folders[:] = [name for name in folders if name != "__pycache__"]
+        for name in names:
+            path = os.path.join(folder, name)
+            yield os.path.relpath(path, top).replace(os.sep, "/"), _read(path)
+
+
 def _record(files):
     lines = []
     for name, data in files:
@@ -75,7 +85,7 @@ def _record(files):
 
 def build_wheel(wheel_directory, config_settings=None, metadata_directory=None):
     processor = _processor(config_settings)
-    module = {name: _read(HERE, "gazhdor", name) for name in os.listdir(os.path.join(HERE, "gazhdor")) if name != "__pycache__"}
+    module = dict(_modules())
     module["VERSION"] = _read(TREE, "VERSION")
     module["libgazhdor.so"] = _library(processor)
     version = module["VERSION"].decode().strip()

@@ -113,10 +113,12 @@ followed("the demo is compiled with the shared library" "what the demo with the 
 
 # ---- the calls
 
-quiet("the calls" "./calls ride.fit said 1")
+quiet("the calls" "./calls ride.fit said-ride 1")
+# Its text is longer than what is put at once.
+quiet("the calls on 20 KB, each growth of memory refused" "./calls 20k.fit said-20k 0")
 if(VALGRIND)
     set(valgrind "valgrind -q --error-exitcode=9 --leak-check=full --show-leak-kinds=all")
-    quiet("the calls under valgrind" "${valgrind} ./calls ride.fit said 200")
+    quiet("the calls under valgrind" "${valgrind} ./calls ride.fit said-ride 200")
     quiet("pieces under valgrind" "${valgrind} ./pieces_plain 7 known/message.fit known/orders.fit known/developer.fit")
 endif()
 quiet("a stack of 64 KiB suffices" "./stack ${all_files}")
@@ -172,9 +174,12 @@ says("a file that cannot be written" "cannot write /dev/full\n4" "./write /dev/f
 
 quiet("known files in pieces" "./pieces 1 ${known}")
 quiet("the ride and mixed fields in pieces" "./pieces 61 ride.fit mixed.fit")
+quiet("pieces of 20 KB, each growth of memory refused" "./pieces 0 20k.fit")
 foreach(kind IN LISTS recorded)
     quiet("what a stream keeps of ${kind}" "./held long-${kind}.fit")
 endforeach()
+quiet("what a stream keeps of 2 MB" "./held 2m.fit")
+quiet("no byte of a message that was handed out" ./handed_out)
 foreach(kind ride mixed plain developer strings)
     # The last line of `fit show` says what was found.
     same("show of ${kind} in pieces" "fit show ${kind}.fit | sed '$d'" "./fed show <${kind}.fit")
@@ -197,3 +202,4 @@ says("a read that fails" "read fault\n4" "./fed check <.; echo $?")
 
 quiet("blocks with changes, back to bytes" "./mutants 100000 ${known} ${all_files}")
 quiet("blocks of the greatest length" "./huge_blocks far")
+quiet("the memory of the way back" "./peak ${all_files}")

@@ -6,22 +6,9 @@
  *  - A stream that checks has it nowhere, nor has it there with each byte as a number of two, four or eight bytes.
  *  - No stream has it anywhere once other messages have come: what is made of these stands where texts are made.
  * All blocks of memory are looked through, to the end of what the allocator gave: link with --wrap=malloc, realloc and free. */
-#include "gazhdor.h"
+#include "want.h"
 
 #include <malloc.h>
-#include <stdint.h>
-#include <stdio.h>
-#include <stdlib.h>
-#include <string.h>
-
-#define WANT(what, ...)                                                             \
-    do {                                                                            \
-        if (!(what)) {                                                              \
-            fprintf(stderr, "handed_out.c:%d: not so: %s; ", __LINE__, #what);      \
-            fprintf(stderr, __VA_ARGS__);                                           \
-            exit(1);                                                                \
-        }                                                                           \
-    } while (0)
 
 /* ---- memory: the blocks that are in use */
 
@@ -35,7 +22,7 @@ void __real_free(void *block);
 
 static void add(void *block)
 {
-    WANT(count < BLOCKS, "more than %d blocks\n", BLOCKS);
+    WANT_OF(count < BLOCKS, "more than %d blocks\n", BLOCKS);
     blocks[count++] = block;
 }
 
@@ -44,7 +31,7 @@ static void take_away(void *block)
     size_t i = 0;
     while (i < count && blocks[i] != block)
         i++;
-    WANT(i < count, "a block that isn't in use is given back\n");
+    WANT_OF(i < count, "a block that isn't in use is given back\n");
     blocks[i] = blocks[--count];
 }
 
@@ -95,17 +82,6 @@ static uint8_t *put(uint8_t *at, const void *bytes, size_t length)
     return (uint8_t *)memcpy(at, bytes, length) + length;
 }
 
-static uint16_t sum_of(const uint8_t *bytes, size_t length)
-{
-    uint16_t sum = 0;
-    for (size_t k = 0; k < length; k++) {
-        sum ^= bytes[k];
-        for (int bit = 0; bit < 8; bit++)
-            sum = (uint16_t)(sum & 1 ? sum >> 1 ^ 0xA001 : sum >> 1);
-    }
-    return sum;
-}
-
 /* Record messages with a time, a text and a heart rate. All bytes are fewer than the 2,048 that a decoder once kept. */
 static void make(fit_file *file)
 {
@@ -121,9 +97,7 @@ static void make(fit_file *file)
             file->first = (size_t)(at - file->bytes);
     }
     file->data = (size_t)(at - file->bytes);
-    uint16_t sum = sum_of(file->bytes, file->data);
-    *at++ = (uint8_t)sum;
-    *at++ = (uint8_t)(sum >> 8);
+    with_checksum(file->bytes, file->data);
 }
 
 /* ---- what stands in memory */
@@ -182,14 +156,14 @@ static void feed(feeding *f, const uint8_t *bytes, size_t length, uint32_t wante
         f->made += often(piece.bytes, piece.length, 1);
         gazhdor_free(piece);
     }
-    WANT(status == wanted, "%s by %zu: status %u\n", kinds[f->kind].name, f->size, status);
+    WANT_OF(status == wanted, "%s by %zu: status %u\n", kinds[f->kind].name, f->size, status);
 }
 
 static void look(const feeding *f, const char *when, size_t room, int anywhere)
 {
     const char *name = kinds[f->kind].name;
-    WANT(often_in(f->stream.at) <= room, "%s by %zu: %zu times %s\n", name, f->size, often_in(f->stream.at), when);
-    WANT(!anywhere || often_anywhere() == 0, "%s by %zu: %zu times %s\n", name, f->size, often_anywhere(), when);
+    WANT_OF(often_in(f->stream.at) <= room, "%s by %zu: %zu times %s\n", name, f->size, often_in(f->stream.at), when);
+    WANT_OF(!anywhere || often_anywhere() == 0, "%s by %zu: %zu times %s\n", name, f->size, often_anywhere(), when);
 }
 
 /* The last byte of the file is refused where `wrong` isn't 0. */
@@ -199,18 +173,18 @@ static void handed_out(uint32_t kind, const fit_file *file, size_t size, uint8_t
     gazhdor_text last = GAZHDOR_NO_TEXT;
     const uint8_t end[2] = { file->bytes[file->data], (uint8_t)(file->bytes[file->data + 1] ^ wrong) };
     uint32_t status = wrong ? GAZHDOR_REFUSED : GAZHDOR_GOOD;
-    WANT(gazhdor_open(&f.stream, kind).status == GAZHDOR_GOOD && count > 0, "%s\n", kinds[kind].name);
+    WANT_OF(gazhdor_open(&f.stream, kind).status == GAZHDOR_GOOD && count > 0, "%s\n", kinds[kind].name);
     feed(&f, file->bytes, file->first, GAZHDOR_GOOD);
     look(&f, "after the messages that have it", kinds[kind].room, kind == GAZHDOR_STREAM_CHECK);
     feed(&f, file->bytes + file->first, file->data - file->first, GAZHDOR_GOOD);
     look(&f, "after all messages", 0, 1);
     feed(&f, end, sizeof end, status);
     look(&f, wrong ? "after a refusal" : "after the end of the file", 0, 1);
-    WANT(gazhdor_finish(&f.stream, &last).status == status && last.length == 0, "%s\n", kinds[kind].name);
+    WANT_OF(gazhdor_finish(&f.stream, &last).status == status && last.length == 0, "%s\n", kinds[kind].name);
     look(&f, "at the end", 0, 1);
-    WANT(f.made == kinds[kind].made, "%s by %zu: %zu texts made\n", kinds[kind].name, size, f.made);
+    WANT_OF(f.made == kinds[kind].made, "%s by %zu: %zu texts made\n", kinds[kind].name, size, f.made);
     gazhdor_close(&f.stream);
-    WANT(count == 0, "%s: %zu blocks after it was closed\n", kinds[kind].name, count);
+    WANT_OF(count == 0, "%s: %zu blocks after it was closed\n", kinds[kind].name, count);
 }
 
 /* The same where the file ends, or a byte is refused, with the messages that have the text. */
@@ -220,10 +194,10 @@ static void handed_out_last(uint32_t kind, const fit_file *file, size_t size, ui
     size_t data = own.first - 14;
     own.bytes[4] = (uint8_t)data;
     own.bytes[5] = (uint8_t)(data >> 8);
-    uint16_t sum = (uint16_t)(sum_of(own.bytes, own.first) ^ (wrong << 8));
+    uint16_t sum = (uint16_t)(checksum(own.bytes, own.first) ^ (wrong << 8));
     const uint8_t end[2] = { (uint8_t)sum, (uint8_t)(sum >> 8) };
     feeding f = { kind, size, GAZHDOR_CLOSED_STREAM, 0 };
-    WANT(gazhdor_open(&f.stream, kind).status == GAZHDOR_GOOD, "%s\n", kinds[kind].name);
+    WANT_OF(gazhdor_open(&f.stream, kind).status == GAZHDOR_GOOD, "%s\n", kinds[kind].name);
     feed(&f, own.bytes, own.first, GAZHDOR_GOOD);
     feed(&f, end, sizeof end, wrong ? GAZHDOR_REFUSED : GAZHDOR_GOOD);
     look(&f, wrong ? "after a refusal" : "after the end of the file", kinds[kind].room, kind == GAZHDOR_STREAM_CHECK);
@@ -237,7 +211,7 @@ static void found_where_it_is(void)
         uint8_t *block = __wrap_malloc(TEXT * width + 3);
         for (size_t i = 0; i < TEXT; i++)
             block[3 + i * width] = (uint8_t)text[i];
-        WANT(often_anywhere() == 1, "width %zu: %zu times\n", width, often_anywhere());
+        WANT_OF(often_anywhere() == 1, "width %zu: %zu times\n", width, often_anywhere());
         __wrap_free(block);
     }
 }
@@ -246,7 +220,7 @@ int main(void)
 {
     static fit_file file;
     make(&file);
-    WANT(file.data + 2 < MOST, "%zu bytes\n", file.data);
+    WANT_OF(file.data + 2 < MOST, "%zu bytes\n", file.data);
     found_where_it_is();
     for (uint32_t kind = 0; kind < KINDS; kind++)
         for (size_t size = 1; size <= file.data; size += size < 64 ? 1 : 97)

@@ -14,7 +14,7 @@
 static long mutant;
 
 #undef WANT
-#define WANT(what) WANT_OF(what, " of mutant %ld\n", mutant)
+#define WANT(what) WANT_OF(what, "mutant %ld\n", mutant)
 
 enum { ROOM = 1 << 16, FRONT = 6000, MOST = 40, SEEDS = 24, END = 24, REASONS = GAZHDOR_BLOCK_ITEMS + 1 };
 

@@ -13,43 +13,59 @@
 #define WANT_OF(what, ...)                                                             \
     do {                                                                               \
         if (!(what)) {                                                                 \
-            fprintf(stderr, "%s:%d: not so: %s", __FILE__, __LINE__, #what);           \
+            fprintf(stderr, "%s:%d: not so: %s; ", __FILE__, __LINE__, #what);         \
             fprintf(stderr, __VA_ARGS__);                                              \
             exit(1);                                                                   \
         }                                                                              \
     } while (0)
-#define WANT(what) WANT_OF(what, "\n")
+#define WANT(what) WANT_OF(what, "%s\n", __func__)
 
 /* ---- memory */
 
 #ifdef COUNTED
 #include <malloc.h>
 
-/* How many blocks there are and how many bytes they have; how often memory was asked for, and which time it is to be refused: 0 for none. */
+/* How many blocks there are, how many bytes they have, and the most that these were; how often memory was asked for, which time it is to be
+ * refused, 0 for none, and whether it is refused each time. */
 static __thread struct {
     long blocks;
-    size_t held;
+    size_t held, most;
     long growths, refused;
+    int refuses;
 } memory;
 
 void *__real_malloc(size_t size);
 void *__real_realloc(void *block, size_t size);
 void __real_free(void *block);
 
+static inline int is_refused(void)
+{
+    memory.growths++;
+    return memory.refuses || memory.growths == memory.refused;
+}
+
+static inline void count_block(void *block)
+{
+    memory.held += malloc_usable_size(block);
+    memory.most = memory.held > memory.most ? memory.held : memory.most;
+}
+
 void *__wrap_malloc(size_t size)
 {
-    void *block = ++memory.growths == memory.refused ? NULL : __real_malloc(size);
+    void *block = is_refused() ? NULL : __real_malloc(size);
     memory.blocks += block != NULL;
-    memory.held += malloc_usable_size(block);
+    count_block(block);
     return block;
 }
 
+/* Both blocks are there while the bytes are copied. */
 void *__wrap_realloc(void *old, size_t size)
 {
     size_t before = malloc_usable_size(old);
-    void *block = ++memory.growths == memory.refused ? NULL : __real_realloc(old, size);
+    void *block = is_refused() ? NULL : __real_realloc(old, size);
     memory.blocks += old == NULL && block != NULL;
-    memory.held += block == NULL ? 0 : malloc_usable_size(block) - before;
+    count_block(block);
+    memory.held -= block == NULL ? 0 : before;
     return block;
 }
 
@@ -108,11 +124,11 @@ static inline int is(gazhdor_answer a, uint32_t status, uint32_t reason, uint64_
 static inline gazhdor_text file_of(const char *path, size_t most)
 {
     FILE *file = fopen(path, "rb");
-    WANT_OF(file != NULL, " of %s\n", path);
+    WANT_OF(file != NULL, "%s\n", path);
     uint8_t *bytes = (uint8_t *)malloc(most);
     WANT(bytes != NULL);
     gazhdor_text whole = { bytes, fread(bytes, 1, most, file) };
-    WANT_OF(whole.length < most && !ferror(file), " of %s\n", path);
+    WANT_OF(whole.length < most && !ferror(file), "%s\n", path);
     fclose(file);
     return whole;
 }

@@ -17,44 +17,45 @@
     with gazhdor.Writer("new.fit") as out:                                          # a file of values
         out.write("record", timestamp=start, heart_rate=120)
 
-Each call hands the bytes of the file to the proved library of Gazhdor. The library lets other threads run meanwhile. A file object is
-read from where it is to its end, or to a fault, and stays open.
+Each call hands the bytes of the file to the proved library of Gazhdor. The library lets other threads run meanwhile. A
+file object is read from where it is to its end, or to a fault, and stays open.
 
-All calls but `check` raise `Refused` or `Truncated` where the bytes are no FIT file. Each raises MemoryError where memory is
-refused, `ReadFailed` where a read fails, `NotBinary` where a file object gives text, and OSError where a path can't be opened.
-`import gazhdor` raises a `LibraryError` where the library can't be used. The variable GAZHDOR_LIBRARY names another libgazhdor.so
-than the one beside this file, or in the tree that of release/.
+All calls but `check` raise `Refused` or `Truncated` where the bytes are no FIT file. Each raises MemoryError where
+memory is refused, `ReadFailed` where a read fails, `NotBinary` where a file object gives text, and OSError where a path
+can't be opened. `import gazhdor` raises a `LibraryError` where the library can't be used. The variable GAZHDOR_LIBRARY
+names another libgazhdor.so than the one beside this file, or in the tree that of release/.
 
 From a shell: python3 -m gazhdor check|show|table|json|gpx|to-csv|from-csv|mend [FILE..], and edit and join
 """
 import datetime
 import itertools
-from typing import Any, Iterator, NamedTuple, Optional, Tuple, Union
+from collections.abc import Iterator
+from typing import Any, NamedTuple, Optional, Union
 
-from ._advice import advice as _advice
 from ._answers import Answer
-from ._columns import columns, frame, lists
-from ._events import DefinitionMessage, FileEnd, FileHeader
-from ._gpx import gpx
-from ._layout import FieldDefinition
 from ._library import VERSION as __version__
 from ._library import library as _library
 from ._library import text_of as _text_of
-from ._mend import mend
-from ._messages import Field, Message, Position
 from ._names import EXTRA, Named, Names
 from ._profile import UnknownName
-from ._shapes import DeveloperField
-from ._sinks import Sink, Writable
+from ._read.columns import columns, frame, lists
+from ._read.events import DefinitionMessage, FileEnd, FileHeader
+from ._read.gpx_parts import gpx
+from ._read.messages import Field, Message, Position
+from ._read.streams import Stream, blocks, messages
+from ._read.streams import found as _found
+from ._read.streams import rows as _rows
+from ._read.values import Key, Value, degrees
 from ._sources import Readable, Source
 from ._sources import bytes_of as _bytes_of
-from ._streams import Stream, blocks, messages
-from ._streams import found as _found
-from ._streams import rows as _rows
 from ._times import when
-from ._values import Key, Value, degrees
-from ._writer import Writer, from_blocks
-from ._written import Definition
+from ._write.csv_advice import advice as _advice
+from ._write.definitions import FieldDefinition
+from ._write.field_shapes import DeveloperField
+from ._write.mending import mend
+from ._write.message_writer import Definition
+from ._write.sinks import Sink, Writable
+from ._write.writer import Writer, from_blocks
 from .errors import (
     BlocksRefused,
     FitError,
@@ -135,6 +136,11 @@ __all__ = [
 ]
 
 
+def __dir__() -> list[str]:
+    """The public names."""
+    return [*__all__, "errors", *(name for name in globals() if name.startswith("__"))]
+
+
 class Row(NamedTuple):
     """A record message. None stands where the file says nothing of a value.
 
@@ -165,8 +171,9 @@ class Row(NamedTuple):
 
 
 def check(source: Source) -> Answer:
-    """Returns whether `source` is a FIT file or several, one after another. It raises nothing where they aren't good: the answer
-    says where and why. It reads the source piece by piece, up to that with the first byte that is refused."""
+    """Returns whether `source` is a FIT file or several, one after another. It raises nothing where they aren't good:
+    the answer says where and why. It reads the source piece by piece, up to that with the first byte that is
+    refused."""
     answer = _found(source)
     _judged(answer, partial=True)
     return answer
@@ -179,14 +186,15 @@ def _converted(call: Any, source: Source, partial: bool) -> str:
 
 
 def table_text(source: Source, partial: bool = False) -> str:
-    """Returns the table of the record messages as CSV text: a line with the names of `Row`, and then a line for each message, with
-    its units. With `partial` it is the text of what comes before a fault; else a fault is raised, as `Refused` or `Truncated`."""
+    """Returns the table of the record messages as CSV text: a line with the names of `Row`, and then a line for each
+    message, with its units. With `partial` it is the text of what comes before a fault; else a fault is raised, as
+    `Refused` or `Truncated`."""
     return _converted(_library.gazhdor_table, source, partial)
 
 
 def to_csv(source: Source, partial: bool = False) -> str:
-    """Returns all of the file as CSV text of seven columns, of which `from_csv` makes the same bytes again. `partial` as for
-    `table_text`."""
+    """Returns all of the file as CSV text of seven columns, of which `from_csv` makes the same bytes again. `partial`
+    as for `table_text`."""
     return _converted(_library.gazhdor_to_csv, source, partial)
 
 
@@ -196,15 +204,17 @@ def show(source: Source, partial: bool = False) -> str:
 
 
 def from_csv(text: Union[str, bytes, bytearray, memoryview]) -> bytes:
-    """Returns the bytes of the FIT file or files that a CSV text describes: a str, or its bytes in UTF-8, and no path. It raises
-    `TextRefused` where the text describes none, with the row and the column that aren't allowed, and what would do there."""
+    """Returns the bytes of the FIT file or files that a CSV text describes: a str, or its bytes in UTF-8, and no path.
+    It raises `TextRefused` where the text describes none, with the row and the column that aren't allowed, and what
+    would do there."""
     if not isinstance(text, (str, bytes, bytearray, memoryview)):
         raise TypeError(f"from_csv takes a text or its bytes, and not {type(text).__name__}")
     answer, data = _text_of(_library.gazhdor_from_csv, text.encode() if isinstance(text, str) else bytes(text))
     try:
         _judge(answer)
     except TextRefused as refused:
-        refused.advice = _advice(text if isinstance(text, str) else bytes(text).decode("utf-8", "replace"), refused.row, refused.column)
+        shown = text if isinstance(text, str) else bytes(text).decode("utf-8", "replace")
+        refused.advice = _advice(shown, refused.row, refused.column)
         raise
     return data
 
@@ -214,11 +224,12 @@ def _when(cell: str) -> Union[datetime.datetime, str, None]:
 
 
 def table(source: Source, partial: bool = False) -> Iterator[Row]:
-    """Yields a Row for each record message. The source is read, piece by piece, as rows are asked for. `partial` as for `messages`."""
+    """Yields a Row for each record message. The source is read, piece by piece, as rows are asked for. `partial` as for
+    `messages`."""
     for cells in _rows(source, partial):
         yield Row(int(cells[0]), _when(cells[1]), *(float(cell) if cell else None for cell in cells[2:]))
 
 
-def files(source: Source, partial: bool = False) -> Iterator[Tuple[int, Iterator[Row]]]:
+def files(source: Source, partial: bool = False) -> Iterator[tuple[int, Iterator[Row]]]:
     """Yields (number, rows) for each file that has record messages, the rows being those of `table`."""
     return itertools.groupby(table(source, partial), key=lambda row: row.file)

@@ -2,14 +2,15 @@
 import contextlib
 import os
 import sys
-from typing import Iterator, List, NamedTuple, Optional, Tuple
+from collections.abc import Iterator
+from typing import NamedTuple, Optional
 
 from . import EXTRA, FitError, Names, __version__, check, from_csv, mend
-from ._changes import COMMANDS, USAGE, run
-from ._gpx import parts
-from ._json import line
+from ._read.gpx_parts import parts
+from ._read.json_lines import line
+from ._read.streams import each, messages
 from ._sources import Source, bytes_of
-from ._streams import each, messages
+from ._write.edit_commands import COMMANDS, USAGE, run
 
 _TEXTS = {"show": "show", "to-csv": "to_csv", "table": "table"}
 _COMMANDS = ("check", "json", "gpx", "from-csv", "mend", *_TEXTS)
@@ -68,7 +69,7 @@ def _write(job: _Job, path: str, source: Source) -> None:
             raise _NotWritten from error
 
 
-def _done(job: _Job, path: str) -> Tuple[int, Optional[object]]:
+def _done(job: _Job, path: str) -> tuple[int, Optional[object]]:
     """Does a command on one file, and returns its status, and what standard error is to say of the file."""
     try:
         if path == "-" and sys.stdin is None:
@@ -83,7 +84,7 @@ def _done(job: _Job, path: str) -> Tuple[int, Optional[object]]:
     return 0, None
 
 
-def _asked(words: List[str]) -> Optional[Tuple[_Job, List[str]]]:
+def _asked(words: list[str]) -> Optional[tuple[_Job, list[str]]]:
     """The job that the words ask for, and the files; None where they aren't understood."""
     if not words or words[0] not in _COMMANDS:
         return None
@@ -97,7 +98,7 @@ def _asked(words: List[str]) -> Optional[Tuple[_Job, List[str]]]:
     return _Job(command, names), words[at + 1 :] if words[at : at + 1] == ["--"] else words[at:]
 
 
-def _main(words: List[str]) -> int:
+def _main(words: list[str]) -> int:
     if words[:1] in (["-h"], ["--help"]):
         print(_USAGE)
         return 0
@@ -130,7 +131,8 @@ def _main(words: List[str]) -> int:
 
 
 def _run() -> int:
-    """The exit status. Where nobody reads the output any more, that is 4, as the program has it, and nothing is said of it."""
+    """The exit status. Where nobody reads the output any more, that is 4, as the program has it, and nothing is said of
+    it."""
     if sys.stdout is None:
         print("there is no standard output", file=sys.stderr)
         return 4

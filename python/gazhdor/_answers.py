@@ -1,19 +1,19 @@
 """What the library returns."""
 import ctypes
-from typing import Optional, Tuple
+from typing import Optional
 
 from ._numbers import BLOCK, GOOD, REFUSED, TEXT, TRUNCATED
 from ._reasons import BLOCK_REASONS, REASONS
 
 
 class Answer(ctypes.Structure):
-    """What `check` found. It is true where the bytes are a FIT file or several, one after another; as text it is the finding,
-    as 'ok' or 'refused at byte 3258: FileSum'.
+    """What `check` found. It is true where the bytes are a FIT file or several, one after another; as text it is the
+    finding, as 'ok' or 'refused at byte 3258: FileSum'.
 
     good    whether they are
     files   how many files they are, where they are good; else 0
-    place   the place of the byte that is refused, or where the bytes end too soon, counted from 0; of blocks where that begins which is
-            refused; else None
+    place   the place of the byte that is refused, or where the bytes end too soon, counted from 0; of blocks where that
+            begins which is refused; else None
     reason  the name of the reason, as 'FileSum', where a byte is refused, or as 'Items', where a block is; else None
     row     of a text: the first row that isn't allowed where it is, counted from 1; else None
     explanation  what is wrong, as a sentence; None where they are good
@@ -49,7 +49,7 @@ class Answer(ctypes.Structure):
         return self._why[0] if self._status in (REFUSED, BLOCK) else None
 
     @property
-    def _why(self) -> Tuple[str, str]:
+    def _why(self) -> tuple[str, str]:
         """The name of the reason, and what it says; nothing of other findings."""
         reasons = {REFUSED: REASONS, BLOCK: BLOCK_REASONS}.get(self._status)
         return reasons[self._reason - 1] if reasons else ("", "")
@@ -73,8 +73,11 @@ class Answer(ctypes.Structure):
             f"The byte at {self.place} {self._why[1]}.",
             f"The bytes end at {self.place}, before the file does.",
             "Memory was refused, which says nothing of the bytes.",
-            f"The cell in row {self.row}, column {self.column} isn't allowed there." if self.column else f"Row {self.row} isn't allowed there.",
-            "The rows are those of files that have no bytes: one is too long, or has zeros in place of a checksum of 0.",
+            f"The cell in row {self.row}, column {self.column} isn't allowed there."
+            if self.column
+            else f"Row {self.row} isn't allowed there.",
+            "The rows are those of files that have no bytes: one is too long, or has zeros in place of a checksum of "
+            "0.",
             "The stream is closed.",
             "There is no such kind of stream.",
             f"Block {self.block}, which begins at {self.place}, {self._why[1]}.",

@@ -5,16 +5,18 @@ import pkgutil
 import platform
 import sys
 import weakref
-from typing import Any, List, Optional, Tuple, Union
+from typing import Any, Optional, Union
 
 from ._answers import Answer
 from .errors import LibraryMissing, LibraryUnusable, WrongMachine, WrongVersion
 
 NAME = "libgazhdor.so"
 HERE = os.path.dirname(os.path.abspath(__file__))
-# The module stands in the folder python/ of a tree, unless it was installed; the tree has the library and the version for it.
+# The module stands in the folder python/ of a tree, unless it was installed; the tree has the library and the version
+# for it.
 TREE = os.path.dirname(os.path.dirname(HERE))
-IN_TREE = os.path.basename(os.path.dirname(HERE)) == "python" and os.path.exists(os.path.join(TREE, "release", "SOURCES"))
+_SOURCES = os.path.join(TREE, "release", "SOURCES")
+IN_TREE = os.path.basename(os.path.dirname(HERE)) == "python" and os.path.exists(_SOURCES)
 
 
 class _Text(ctypes.Structure):
@@ -50,7 +52,7 @@ def _opened(path: str) -> ctypes.CDLL:
         raise LibraryUnusable(f"{path} can't be loaded: {error}", path) from None
 
 
-def _find() -> Tuple[str, ctypes.CDLL]:
+def _find() -> tuple[str, ctypes.CDLL]:
     named = os.environ.get("GAZHDOR_LIBRARY")
     if named:
         if not os.path.exists(named):
@@ -62,7 +64,8 @@ def _find() -> Tuple[str, ctypes.CDLL]:
         return beside, _opened(beside)
     inside = packed(NAME)
     if inside is not None:
-        # The module is in a zip file, of which the system loads nothing. A library that is loaded needs its file no more.
+        # The module is in a zip file, of which the system loads nothing. A library that is loaded needs its file no
+        # more.
         import tempfile
 
         with tempfile.NamedTemporaryFile(prefix="gazhdor-", suffix=".so") as file:
@@ -77,7 +80,8 @@ def _find() -> Tuple[str, ctypes.CDLL]:
     try:
         return NAME, ctypes.CDLL(installed)
     except OSError:
-        raise LibraryMissing(f"{beside} isn't there, and the system has no {installed}: install the wheel, or set GAZHDOR_LIBRARY", beside) from None
+        what = f"{beside} isn't there, and the system has no {installed}: install the wheel, or set GAZHDOR_LIBRARY"
+        raise LibraryMissing(what, beside) from None
 
 
 def _load(version: str) -> ctypes.CDLL:
@@ -86,18 +90,15 @@ def _load(version: str) -> ctypes.CDLL:
         library.gazhdor_version.argtypes, library.gazhdor_version.restype = (), ctypes.c_char_p
         library.gazhdor_check.argtypes, library.gazhdor_check.restype = (ctypes.c_char_p, ctypes.c_size_t), Answer
         library.gazhdor_free.argtypes, library.gazhdor_free.restype = (_Text,), None
-        for name in ("table", "to_csv", "show", "from_csv", "messages"):
+        for name in ("table", "to_csv", "show", "from_csv", "messages", "from_messages"):
             call = getattr(library, f"gazhdor_{name}")
             call.argtypes, call.restype = (ctypes.c_char_p, ctypes.c_size_t, ctypes.POINTER(_Text)), Answer
-        if hasattr(library, "gazhdor_from_messages"):
-            library.gazhdor_from_messages.argtypes = ctypes.c_char_p, ctypes.c_size_t, ctypes.POINTER(_Text)
-            library.gazhdor_from_messages.restype = Answer
-        if hasattr(library, "gazhdor_open"):
-            stream, text = ctypes.POINTER(_Stream), ctypes.POINTER(_Text)
-            library.gazhdor_open.argtypes, library.gazhdor_open.restype = (stream, ctypes.c_uint32), Answer
-            library.gazhdor_feed.argtypes, library.gazhdor_feed.restype = (stream, ctypes.c_char_p, ctypes.c_size_t, text), Answer
-            library.gazhdor_finish.argtypes, library.gazhdor_finish.restype = (stream, text), Answer
-            library.gazhdor_close.argtypes, library.gazhdor_close.restype = (stream,), None
+        stream, text = ctypes.POINTER(_Stream), ctypes.POINTER(_Text)
+        library.gazhdor_open.argtypes, library.gazhdor_open.restype = (stream, ctypes.c_uint32), Answer
+        library.gazhdor_feed.argtypes = stream, ctypes.c_char_p, ctypes.c_size_t, text
+        library.gazhdor_feed.restype = Answer
+        library.gazhdor_finish.argtypes, library.gazhdor_finish.restype = (stream, text), Answer
+        library.gazhdor_close.argtypes, library.gazhdor_close.restype = (stream,), None
     except AttributeError as error:
         raise LibraryUnusable(f"{path} isn't a library of gazhdor {version}: {error}", path) from None
     told = library.gazhdor_version().decode()
@@ -119,15 +120,13 @@ def _version() -> str:
 
 VERSION = _version()
 library = _load(VERSION)
-# A library of this version that was made before there were streams, or the call on blocks, has none.
-HAS_STREAMS = hasattr(library, "gazhdor_open")
-HAS_WRITER = hasattr(library, "gazhdor_from_messages")
 _nothing = ctypes.create_string_buffer(1)
 _MOST_AT_ONCE = 2**30  # ctypes.string_at counts in a C int.
 
 
 def exact(data: Union[bytes, bytearray, memoryview]) -> bytes:
-    """The bytes themselves: a copy of all that aren't of the type bytes alone, as a type that is made of it may lie about its length."""
+    """The bytes themselves: a copy of all that aren't of the type bytes alone, as a type that is made of it may lie
+    about its length."""
     return data if type(data) is bytes else bytes(memoryview(data))
 
 
@@ -156,31 +155,30 @@ class _Owner:
     __slots__ = ("__weakref__",)
 
 
-def text_of(call: Any, data: bytes) -> Tuple[Answer, bytes]:
-    """The answer of a call, and what it makes of some bytes. The library's memory is freed also where an exception comes."""
+def text_of(call: Any, data: bytes) -> tuple[Answer, bytes]:
+    """The answer of a call, and what it makes of some bytes. The library's memory is freed also where an exception
+    comes."""
     data, text, owner = exact(data), _no_text(), _Owner()
     weakref.finalize(owner, library.gazhdor_free, text).atexit = False
     answer: Answer = call(data, len(data), ctypes.byref(text))
     return answer, _copied(text)
 
 
-def _close(stream: _Stream, text: _Text, callers: List[int]) -> None:
-    """Closes a stream, and frees a text that was left. A stream that another process was calling when this one was forked may be half
-    changed here, so it is left as it is."""
+def _close(stream: _Stream, text: _Text, callers: list[int]) -> None:
+    """Closes a stream, and frees a text that was left. A stream that another process was calling when this one was
+    forked may be half changed here, so it is left as it is."""
     if all(caller == os.getpid() for caller in callers):
         library.gazhdor_free(text)
         library.gazhdor_close(stream)
 
 
 class Opened:
-    """A stream of the library, of one of its kinds. It is used by one thread at a time, and not after a call that ended in an exception."""
+    """A stream of the library, of one of its kinds. It is used by one thread at a time, and not after a call that ended
+    in an exception."""
 
     def __init__(self, kind: int) -> None:
-        if not HAS_STREAMS:
-            path = str(library._name)
-            raise WrongVersion(f"{path} is older than the module gazhdor {VERSION}: it has no streams", path)
         self._stream, self._text = _Stream(), _no_text()
-        self._callers: List[int] = []
+        self._callers: list[int] = []
         self.close = weakref.finalize(self, _close, self._stream, self._text, self._callers)
         self.close.atexit = False
         self.answer: Answer = library.gazhdor_open(self._stream, kind)

@@ -1,9 +1,10 @@
 """Names, units and scales that the profile of the library doesn't have: the caller's own, and those of extra.tsv."""
 import os
 import re
-from typing import Any, Dict, Mapping, NamedTuple, Optional, Union
+from collections.abc import Mapping
+from typing import Any, NamedTuple, Optional, Union
 
-from ._bases import base_named
+from ._base_types import base_named
 from ._library import packed
 from ._profile import Kind, number_of, profile
 
@@ -20,8 +21,8 @@ class Named(NamedTuple):
     unit    its unit
     scale   a whole number `raw` stands for `raw / scale - offset` units; floats stand for themselves
     offset
-    type    'date_time' where it is a time in seconds since 1989-12-31T00:00:00 UTC, 'local_date_time' where it is one by the clock of
-            the place; else None
+    type    'date_time' where it is a time in seconds since 1989-12-31T00:00:00 UTC, 'local_date_time' where it is one
+            by the clock of the place; else None
     base    the name of the base type that it has when it is written, as 'uint16'
     """
 
@@ -74,20 +75,21 @@ Told = Union[None, "Names", str, "os.PathLike[str]", Mapping[Any, Any]]
 class Names:
     """Names, units and scales of fields, and names of messages, by their numbers.
 
-    `told` is a dict or the path of a text. A dict has `{(message, field): name}`, the message being a name or a number and the field the
-    number of a field; in place of the name may stand `(name, unit, scale, offset, type, base)`, of which the last ones can be left out, and
-    None leaves what is known. `{140: 'physiology'}` names a message. A text is UTF-8, with tabs between cells, and begins with the names of its
-    columns, which are some of 'message', 'message name', 'field', 'field name', 'unit', 'scale', 'offset', 'type' and 'base type'; an empty
-    cell leaves what is known, a row without 'field' names a message alone, and a line that begins with '#' says nothing.
+    `told` is a dict or the path of a text. A dict has `{(message, field): name}`, the message being a name or a number
+    and the field the number of a field; in place of the name may stand `(name, unit, scale, offset, type, base)`, of
+    which the last ones can be left out, and None leaves what is known. `{140: 'physiology'}` names a message. A text is
+    UTF-8, with tabs between cells, and begins with the names of its columns, which are some of 'message', 'message
+    name', 'field', 'field name', 'unit', 'scale', 'offset', 'type' and 'base type'; an empty cell leaves what is known,
+    a row without 'field' names a message alone, and a line that begins with '#' says nothing.
 
-    `one | other` has what both have, and of what both name what `other` has. It raises ValueError, with the line of a text, for what can't
-    be, and OSError where a path can't be opened.
+    `one | other` has what both have, and of what both name what `other` has. It raises ValueError, with the line of a
+    text, for what can't be, and OSError where a path can't be opened.
     """
 
     def __init__(self, told: "Union[None, str, os.PathLike[str], Mapping[Any, Any]]" = None) -> None:
-        self._messages: Dict[int, str] = {}
-        self._numbers: Dict[str, int] = {}
-        self._fields: Dict[int, Dict[int, Named]] = {}
+        self._messages: dict[int, str] = {}
+        self._numbers: dict[str, int] = {}
+        self._fields: dict[int, dict[int, Named]] = {}
         if isinstance(told, Mapping):
             for key, value in told.items():
                 self._take(key, value)
@@ -117,17 +119,19 @@ class Names:
             self._messages[number], self._numbers[value] = value, number
 
     def _read(self, text: str) -> None:
-        lines = [(number, line) for number, line in enumerate(text.splitlines(), 1) if line and not line.startswith("#")]
+        every = enumerate(text.splitlines(), 1)
+        lines = [(number, line) for number, line in every if line and not line.startswith("#")]
         head = lines[0][1].split("\t") if lines else []
         if "message" not in head or not set(head) <= set(_COLUMNS) or len(set(head)) < len(head):
-            raise ValueError(f"the first line has 'message' and some of {', '.join(_COLUMNS[1:])}, with tabs between them")
+            more = ", ".join(_COLUMNS[1:])
+            raise ValueError(f"the first line has 'message' and some of {more}, with tabs between them")
         for number, line in lines[1:]:
             try:
                 self._read_row(dict(zip(head, line.split("\t"))), line.count("\t") + 1 - len(head))
             except ValueError as error:
                 raise ValueError(f"line {number}: {error}") from None
 
-    def _read_row(self, row: Dict[str, str], more: int) -> None:
+    def _read_row(self, row: dict[str, str], more: int) -> None:
         if more > 0:
             raise ValueError("it has more cells than the first line")
         cells = {name: cell for name, cell in row.items() if cell}
@@ -141,7 +145,7 @@ class Names:
             self._take((message, int(cells["field"])), named)
 
     @property
-    def messages(self) -> Dict[str, int]:
+    def messages(self) -> dict[str, int]:
         """The numbers of the messages that are named, by their names."""
         return self._numbers
 
@@ -149,7 +153,7 @@ class Names:
         """The name of a message, or None where it isn't named."""
         return self._messages.get(number)
 
-    def fields(self, message: int) -> Dict[int, Named]:
+    def fields(self, message: int) -> dict[int, Named]:
         """What is said of the fields of a message, by their numbers."""
         return self._fields.get(message, {})
 

@@ -1,21 +1,24 @@
-"""The names of the proved profile, as profile.tsv has them, and what is said of a name that neither it nor a file has."""
+"""The names of the proved profile, as profile.tsv has them, and what is said of a name that neither it nor a file
+has."""
 import difflib
 import functools
 import itertools
-from typing import TYPE_CHECKING, Dict, Iterable, NamedTuple, Optional, Tuple, Union
+from collections.abc import Iterable
+from typing import TYPE_CHECKING, NamedTuple, Optional, Union
 
 from ._library import packed
 
 if TYPE_CHECKING:
     from ._names import Names
-    from ._values import Definition
+    from ._read.values import Definition
 
 Kind = Union[str, int]
 _MOST_NAMES, _MOST_LETTERS = 1000, 100  # So many names are compared, and none that is longer.
 
 
 class Info(NamedTuple):
-    """What the profile says of a field: an item `raw` stands for `raw / scale - offset` units; its base type is usually `base`."""
+    """What the profile says of a field: an item `raw` stands for `raw / scale - offset` units; its base type is usually
+    `base`."""
 
     name: str
     unit: str
@@ -25,11 +28,12 @@ class Info(NamedTuple):
 
 
 class Known(NamedTuple):
-    """A message of the profile: its number, the numbers of its fields by their names, and what is said of them by their numbers."""
+    """A message of the profile: its number, the numbers of its fields by their names, and what is said of them by their
+    numbers."""
 
     number: int
-    fields: Dict[str, int]
-    told: Dict[int, Info]
+    fields: dict[str, int]
+    told: dict[int, Info]
 
 
 # Field 253 has a name in all messages, and field 254 in those of the profile; they aren't in the table.
@@ -39,24 +43,25 @@ _INDEX = {254: Info("message_index", "", 1, 0, "uint16")}
 
 
 @functools.lru_cache(None)
-def profile() -> Dict[str, Known]:
+def profile() -> dict[str, Known]:
     """The messages of the profile by their names."""
-    found: Dict[str, Known] = {}
+    found: dict[str, Known] = {}
     lines = (packed("profile.tsv") or b"").decode().splitlines()
     for line in lines[1:]:
         number, name, field, field_name, unit, scale, offset, base = line.split("\t")
-        known = found.setdefault(name, Known(int(number), {**_OF_ALL, "message_index": 254}, {**_INFO_OF_ALL, **_INDEX}))
+        of_all = {**_OF_ALL, "message_index": 254}, {**_INFO_OF_ALL, **_INDEX}
+        known = found.setdefault(name, Known(int(number), *of_all))
         known.fields[field_name] = int(field)
         known.told[int(field)] = Info(field_name, unit, int(scale), int(offset), base)
     return found
 
 
 @functools.lru_cache(None)
-def _by_number() -> Dict[int, Known]:
+def _by_number() -> dict[int, Known]:
     return {known.number: known for known in profile().values()}
 
 
-def fields_of(number: int) -> Dict[str, int]:
+def fields_of(number: int) -> dict[str, int]:
     """The fields that the profile names in a message: their numbers by their names."""
     known = _by_number().get(number)
     return known.fields if known else _OF_ALL
@@ -74,13 +79,14 @@ def info_of(message: int, field: int) -> Optional[Info]:
 
 
 class UnknownName(KeyError):
-    """A name that neither the profile nor the file has, nor the names of the caller. `name` is the name, `nearest` the one that is most
-    like it, or None."""
+    """A name that neither the profile nor the file has, nor the names of the caller. `name` is the name, `nearest` the
+    one that is most like it, or None."""
 
     def __init__(self, what: str, name: str, others: Iterable[str], more: str = "") -> None:
         super().__init__(what, name)
         self.name = name
-        self._others: Tuple[str, ...] = tuple(itertools.islice((other for other in others if len(other) <= _MOST_LETTERS), _MOST_NAMES))
+        short = (other for other in others if len(other) <= _MOST_LETTERS)
+        self._others: tuple[str, ...] = tuple(itertools.islice(short, _MOST_NAMES))
         self._what, self._more = what, more
 
     @property
@@ -94,7 +100,7 @@ class UnknownName(KeyError):
         near = self.nearest
         return f"{self._what} {self.name!r}" + (f": is it {near!r}?" if near else self._more)
 
-    def __reduce__(self) -> "Tuple[type, Tuple[str, str, Tuple[str, ...], str]]":
+    def __reduce__(self) -> "tuple[type, tuple[str, str, tuple[str, ...], str]]":
         return UnknownName, (self._what, self.name, self._others, self._more)
 
 
@@ -103,13 +109,21 @@ def see_messages(kinds: Iterable[object], names: "Optional[Names]" = None) -> No
     own = names.messages if names else {}
     for kind in kinds:
         if isinstance(kind, str) and kind not in profile() and kind not in own:
-            raise UnknownName("no message is named", kind, [*profile(), *own], "; one that has no name is asked for by its number")
+            more = "; one that has no name is asked for by its number"
+            raise UnknownName("no message is named", kind, [*profile(), *own], more)
 
 
-def see_fields(message: Kind, asked: Iterable[object], found: "Iterable[Definition]", own: Iterable[str] = (), names: "Optional[Names]" = None) -> None:
-    """Raises UnknownName for a name of a field that the profile hasn't for this message, nor the caller, nor one of the definitions that
-    the file has of it. Names that begin with a dot are those of `own`. Numbers, and (index, number), are good."""
-    known: Optional[Dict[str, int]] = None
+def see_fields(
+    message: Kind,
+    asked: Iterable[object],
+    found: "Iterable[Definition]",
+    own: Iterable[str] = (),
+    names: "Optional[Names]" = None,
+) -> None:
+    """Raises UnknownName for a name of a field that the profile hasn't for this message, nor the caller, nor one of the
+    definitions that the file has of it. Names that begin with a dot are those of `own`. Numbers, and (index, number),
+    are good."""
+    known: Optional[dict[str, int]] = None
     for key in asked:
         if not isinstance(key, str):
             continue
@@ -121,7 +135,8 @@ def see_fields(message: Kind, asked: Iterable[object], found: "Iterable[Definiti
             known = _known(message, names)
             known.update((name, 0) for definition in found for name in definition.by_key if isinstance(name, str))
         if key not in known:
-            raise UnknownName(f"neither the profile nor the file has in {_called(message)} a field", key, known, "; one that has no name is asked for by its number")
+            what = f"neither the profile nor the file has in {_called(message)} a field"
+            raise UnknownName(what, key, known, "; one that has no name is asked for by its number")
 
 
 def number_of(message: Kind, names: "Optional[Names]" = None) -> Optional[int]:
@@ -137,7 +152,7 @@ def _called(message: Kind) -> str:
     return message if isinstance(message, str) else name_of(message) or f"message {message}"
 
 
-def _known(message: Kind, names: "Optional[Names]") -> Dict[str, int]:
+def _known(message: Kind, names: "Optional[Names]") -> dict[str, int]:
     """The fields that the profile, and the caller, name in a message."""
     number = number_of(message, names)
     known = dict(_OF_ALL if number is None else fields_of(number))

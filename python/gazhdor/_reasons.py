@@ -1,5 +1,5 @@
-"""Why a byte is refused, and why a block can't be written: each reason, by its number from 1, with what it says of the byte or
-the block. Written by profile/make."""
+"""Why a byte is refused, and why a block can't be written: each reason, by its number from 1, with what it says of the
+byte or the block. Written by profile/make."""
 
 REASONS = (
     ("HeaderSize", "begins a header of 0 to 11 or 13 bytes"),
@@ -16,7 +16,11 @@ REASONS = (
 )
 
 BLOCK_REASONS = (
-    ("Cut", "isn't whole: its length isn't a multiple of 8 from 24 on, or goes past the end; or it is missing there, before a file has begun or has ended"),
+    (
+        "Cut",
+        "isn't whole: its length isn't a multiple of 8 from 24 on, or goes past the end; or it is missing there, "
+        "before a file has begun or has ended",
+    ),
     ("Kind", "is of a kind that can't stand there"),
     ("Header", "is a header of a size, a protocol version, a profile version or a kind of checksum that no file has"),
     ("Local", "has a local message type above 15, or above 3 beside a time offset"),

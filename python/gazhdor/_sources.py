@@ -2,15 +2,11 @@
 import contextlib
 import io
 import os
-from typing import TYPE_CHECKING, Any, Iterator, Optional, Union
+from collections.abc import Iterator
+from typing import Any, Optional, Protocol, Union
 
 from ._library import exact
 from .errors import NotBinary, ReadFailed
-
-if TYPE_CHECKING:
-    from typing_extensions import Protocol  # which checkers have for every version of Python
-else:
-    Protocol = object
 
 
 class Readable(Protocol):
@@ -25,7 +21,8 @@ _ALL, PIECE = 1 << 20, 1 << 16
 
 
 def _read(file: Any, count: int, size: int) -> Any:
-    """What a file object reads; what it raises is a ReadFailed. Bytes in memory raise nothing: what comes there is from elsewhere."""
+    """What a file object reads; what it raises is a ReadFailed. Bytes in memory raise nothing: what comes there is from
+    elsewhere."""
     return file.read(size) if type(file) is io.BytesIO else _wrapped(count, file.read, size)
 
 

@@ -21,8 +21,8 @@ def when(seconds: None) -> None: ...
 @overload
 def when(seconds: Optional[int]) -> Optional[Time]: ...
 def when(seconds: Optional[int]) -> Optional[Time]:
-    """Returns the time that a field of type date_time stands for, in seconds since 1989-12-31T00:00:00 UTC: an aware datetime in UTC;
-    below 268,435,456 the text 'system+N', as the device didn't know the time. None stands for None."""
+    """Returns the time that a field of type date_time stands for, in seconds since 1989-12-31T00:00:00 UTC: an aware
+    datetime in UTC; below 268,435,456 the text 'system+N', as the device didn't know the time. None stands for None."""
     if seconds is None:
         return None
     return f"system+{seconds}" if seconds < SYSTEM_TIMES else EPOCH + datetime.timedelta(0, seconds)

@@ -15,9 +15,9 @@ from support import BYTES, RIDE, left_out
 from fits import UINT8, define, fit
 
 import gazhdor
-from gazhdor._blocks import Walk
+from gazhdor._read.blocks import Walk
 from gazhdor._library import library
-from gazhdor._messages import messages_of
+from gazhdor._read.messages import messages_of
 
 HERE = os.path.dirname(os.path.abspath(__file__))
 

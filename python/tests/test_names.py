@@ -18,7 +18,7 @@ from fits import (
 )
 
 import gazhdor
-from gazhdor._json import line
+from gazhdor._read.json_lines import line
 
 UTC = datetime.timezone.utc
 

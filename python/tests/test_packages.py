@@ -238,21 +238,10 @@ except ImportError as error:
         self.refused("WrongVersion", older, f"{older} is version {other}, and the module gazhdor is version {VERSION}", GAZHDOR_LIBRARY=older)
 
     def test_older(self):
-        """A library of this version from before there were streams: all else is as it is, and what a stream says is plain."""
-        older = self.written("before.so", self.bytes.replace(b"gazhdor_open\0", b"gazhdor_0pen\0"))
-        what = f"{older} is older than the module gazhdor {VERSION}: it has no streams"
-        self.refused("WrongVersion", older, what, GAZHDOR_LIBRARY=older, say=self.SAY.replace("import gazhdor\n", "import gazhdor; gazhdor.Stream('check')\n"))
-        program = f"import gazhdor; print(gazhdor.check({RIDE!r}), len(list(gazhdor.messages({RIDE!r}))), len(list(gazhdor.table({RIDE!r}))))"
-        self.assertEqual(imported(self.alone, program, GAZHDOR_LIBRARY=older).stdout, imported(self.alone, program).stdout)
-
-    def test_older_writer(self):
-        """A library of this version from before there was the call on blocks: what reads is as it is, and a writer says so at once."""
-        older = self.written("unwritten.so", self.bytes.replace(b"gazhdor_from_messages\0", b"gazhdor_fr0m_messages\0"))
-        what = f"{older} is older than the module gazhdor {VERSION}: it makes no files of blocks"
-        for call in ("gazhdor.Writer('none.fit')", "gazhdor.from_blocks(b'')"):
-            self.refused("WrongVersion", older, what, GAZHDOR_LIBRARY=older, say=self.SAY.replace("import gazhdor\n", f"import gazhdor; {call}\n"))
-        program = f"import gazhdor; print(gazhdor.check({RIDE!r}), len(gazhdor.blocks({RIDE!r})))"
-        self.assertEqual(imported(self.alone, program, GAZHDOR_LIBRARY=older).stdout, imported(self.alone, program).stdout)
+        """A library of this version that was made before one of the calls: `import gazhdor` says which it lacks."""
+        for call in (b"gazhdor_open", b"gazhdor_feed", b"gazhdor_finish", b"gazhdor_close", b"gazhdor_from_messages"):
+            older = self.written(f"{call.decode()}.so", self.bytes.replace(b"\0" + call + b"\0", b"\0" + call[:-1] + b"0\0"))
+            self.refused("LibraryUnusable", older, f"{older} isn't a library of gazhdor {VERSION}: ", GAZHDOR_LIBRARY=older)
 
     def test_machine(self):
         """A module that was unpacked on another machine than pip would allow."""

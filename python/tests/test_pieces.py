@@ -17,7 +17,7 @@ from fits import DESCRIBE, SMALL, UINT16, UINT32, UINT8, any_file, define, descr
 
 import gazhdor
 from gazhdor._library import library, text_of
-from gazhdor._streams import each
+from gazhdor._read.streams import each
 
 WORK = folder()
 KNOWN = known()

@@ -2,11 +2,10 @@
 import datetime
 import html
 import struct
-from typing import Any, Callable, Dict, Iterator, Mapping, NamedTuple, Optional, Tuple, Union, ValuesView, overload
+from collections.abc import Callable, Iterator, Mapping, ValuesView
+from typing import Any, NamedTuple, Optional, Union, overload
 
-from ._blocks import Run
-from ._items import Packer, packers
-from ._numbers import (
+from .._numbers import (
     AT_FILE,
     AT_MESSAGE_BITS,
     AT_MESSAGE_CYCLES,
@@ -26,9 +25,11 @@ from ._numbers import (
     TOLD_SPEED,
     TOLD_TIME,
 )
-from ._profile import UnknownName, fields_of
-from ._times import HEADER_TIME, NO_TIME_BYTES, OWN_TIME, Time, when
-from ._values import Definition, Entry, Exact, Key, Number, Raw, Value, degrees, label, read_exact, read_raw
+from .._profile import UnknownName, fields_of
+from .._times import HEADER_TIME, NO_TIME_BYTES, OWN_TIME, Time, when
+from .._write.items import Packer, packers
+from .blocks import Run
+from .values import Definition, Entry, Exact, Key, Number, Raw, Value, degrees, label, read_exact, read_raw
 
 _FILE, _PLACE, _TIME = struct.Struct("<I").unpack_from, struct.Struct("<Q").unpack_from, struct.Struct("<I").unpack_from
 
@@ -37,7 +38,8 @@ def _time_of(entry: Entry, block: bytes) -> Optional[Time]:
     """The time of a field that is one: one by the clock of the place has no zone."""
     seconds: Any = entry.read(block)
     time = when(seconds)
-    return time.replace(tzinfo=None) if entry.type == "local_date_time" and isinstance(time, datetime.datetime) else time
+    is_local = entry.type == "local_date_time" and isinstance(time, datetime.datetime)
+    return time.replace(tzinfo=None) if is_local else time  # type: ignore[union-attr]
 
 
 def _tell_time(block: bytearray, at: int) -> None:
@@ -62,13 +64,14 @@ class Field:
     developer  of a developer field its developer data index, else None
     base       the code of its base type, of a developer field by its description
     unit       its unit, as 'm/s', or None
-    value      a whole number as an int; a scaled number, in its unit, and float32 and float64 as a float; several numbers as a tuple of
-               these; a text as a str, up to its first zero; bytes as bytes. None stands for a number that is the invalid one of its
-               base type, for an empty text, for bytes of type byte that are all 0xFF, and for a field without bytes
+    value      a whole number as an int; a scaled number, in its unit, and float32 and float64 as a float; several
+               numbers as a tuple of these; a text as a str, up to its first zero; bytes as bytes. None stands for a
+               number that is the invalid one of its base type, for an empty text, for bytes of type byte that are all
+               0xFF, and for a field without bytes
     native     of a developer field the number of the field that it stands for, by its description, else None
     exact      `value`, but a scaled whole number as a Decimal, with as many decimals as `to_csv` writes
-    raw        what the file has: an int for each number, unscaled and invalid ones too, of a float its bits; all bytes of a text or of
-               bytes
+    raw        what the file has: an int for each number, unscaled and invalid ones too, of a float its bits; all bytes
+               of a text or of bytes
     """
 
     __slots__ = ("_block", "_entry")
@@ -112,9 +115,10 @@ class Field:
     def raw(self) -> Raw:
         return read_raw(self._entry, self._block)
 
-    def _all(self) -> Tuple[Any, ...]:
+    def _all(self) -> tuple[Any, ...]:
         of = self._entry
-        return of.name, of.number, of.index, of.native, of.unit, of.kind, of.width, of.scale, of.offset, of.invalid, self.raw
+        shape = of.kind, of.width, of.scale, of.offset, of.invalid
+        return (of.name, of.number, of.index, of.native, of.unit, *shape, self.raw)
 
     def __eq__(self, other: object) -> bool:
         if not isinstance(other, Field):
@@ -128,20 +132,21 @@ class Field:
         return Field, (self._block, self._entry)
 
     def __repr__(self) -> str:
-        return f"<gazhdor.Field {label(self.name or self._entry.key)}={self.value!r}{f' {self.unit}' if self.unit else ''}>"
+        unit = f" {self.unit}" if self.unit else ""
+        return f"<gazhdor.Field {label(self.name or self._entry.key)}={self.value!r}{unit}>"
 
 
 class Message(Mapping[Key, Any]):
     """A data message. It keeps its own bytes and what its definition says, and makes a value when it is asked for it.
 
-    A field is named by its name, by its number, or, a developer field, by (index, number), the index being its developer data index:
-    `message["heart_rate"]`, `message[3]`, `message["Form power"]`, `message[0, 2]`. The values are those of `Field.value`. Where the
-    message has no such field, that is a KeyError, of a name that nothing has an UnknownName, and `get` returns None. Of several fields
-    of one name the first counts.
+    A field is named by its name, by its number, or, a developer field, by (index, number), the index being its
+    developer data index: `message["heart_rate"]`, `message[3]`, `message["Form power"]`, `message[0, 2]`. The values
+    are those of `Field.value`. Where the message has no such field, that is a KeyError, of a name that nothing has an
+    UnknownName, and `get` returns None. Of several fields of one name the first counts.
 
-    It is a mapping: a `for` over it, `keys`, `items`, `len` and `dict(message)` have each field once, by its name where it has one of its
-    own, and else by its number, or (index, number). Messages are equal where all that they tell is, their places in the source too;
-    `dict(message)` compares values alone.
+    It is a mapping: a `for` over it, `keys`, `items`, `len` and `dict(message)` have each field once, by its name where
+    it has one of its own, and else by its number, or (index, number). Messages are equal where all that they tell is,
+    their places in the source too; `dict(message)` compares values alone.
     """
 
     __slots__ = ("_block", "_definition")
@@ -160,7 +165,8 @@ class Message(Mapping[Key, Any]):
         if not isinstance(key, str) or self._is_known(key):
             return KeyError(key)
         others = [*self._definition.labels, *fields_of(self.number), *self._definition.names]
-        return UnknownName(f"neither the profile nor this {self.name or f'message {self.number}'} has a field", key, others)
+        of = self.name or f"message {self.number}"
+        return UnknownName(f"neither the profile nor this {of} has a field", key, others)
 
     def _is_known(self, key: Key) -> bool:
         return not isinstance(key, str) or self._definition.number_of(key) is not None
@@ -190,24 +196,27 @@ class Message(Mapping[Key, Any]):
     @overload
     def values(self) -> ValuesView[Any]: ...
     @overload
-    def values(self, key: Key) -> Tuple[Union[Number, str, bytes], ...]: ...
+    def values(self, key: Key) -> tuple[Union[Number, str, bytes], ...]: ...
     def values(self, key: Optional[Key] = None) -> Any:
-        """Returns what a field has as a tuple, however many items it has: its numbers without those that are None, its text or bytes;
-        nothing where the message has no such field. Of a name that neither the profile nor the message has it raises UnknownName.
-        Without a key it is what any mapping has: all values."""
+        """Returns what a field has as a tuple, however many items it has: its numbers without those that are None, its
+        text or bytes; nothing where the message has no such field. Of a name that neither the profile nor the message
+        has it raises UnknownName. Without a key it is what any mapping has: all values."""
         if key is None:
             return super().values()
         if key not in self._definition.readers and not self._is_known(key):
             raise self._missing(key)
         value = self.get(key)
-        return tuple(item for item in value if item is not None) if isinstance(value, tuple) else () if value is None else (value,)
+        if isinstance(value, tuple):
+            return tuple(item for item in value if item is not None)
+        return () if value is None else (value,)
 
     def replace(self, values: Optional[Mapping[Key, Any]] = None, **fields: Any) -> "Message":
-        """Returns the message with other values of some of its fields, which are named as for `message[..]`, those that are no words of Python
-        by a mapping: `message.replace({3: 121, "Form power": None}, position_lat=None)`. A value is what `messages` gives; of a field in
-        semicircles a float is degrees, and a time may be a datetime. What a field can't have is a `WrongValue`."""
+        """Returns the message with other values of some of its fields, which are named as for `message[..]`, those that
+        are no words of Python by a mapping: `message.replace({3: 121, "Form power": None}, position_lat=None)`. A value
+        is what `messages` gives; of a field in semicircles a float is degrees, and a time may be a datetime. What a
+        field can't have is a `WrongValue`."""
         block, packs = bytearray(self._block), packers(self._definition)
-        changes: Dict[Any, Any] = {**(values or {}), **fields}
+        changes: dict[Any, Any] = {**(values or {}), **fields}
         for key, value in changes.items():
             if key not in packs:
                 raise self._missing(key)
@@ -218,7 +227,8 @@ class Message(Mapping[Key, Any]):
         return Message(bytes(block), self._definition)
 
     def emptied(self, wanted: "Callable[[Field], bool]") -> "Message":
-        """Returns the message with no value in each field for which `wanted` says so, which it is asked of every field."""
+        """Returns the message with no value in each field for which `wanted` says so, which it is asked of every
+        field."""
         block = bytearray(self._block)
         for entry in self._definition.entries:
             if wanted(Field(self._block, entry)):
@@ -229,12 +239,14 @@ class Message(Mapping[Key, Any]):
         return Message(bytes(block), self._definition)
 
     def native(self, key: Key) -> Value:
-        """Returns the value of the developer field that stands for a field of the profile, such as "power" or 7: of the first that has
-        one; where none has, the value of the field itself, or None. It raises UnknownName where neither the profile nor the caller has
-        such a name."""
+        """Returns the value of the developer field that stands for a field of the profile, such as "power" or 7: of the
+        first that has one; where none has, the value of the field itself, or None. It raises UnknownName where neither
+        the profile nor the caller has such a name."""
         number = self._definition.number_of(key)
         if number is None:
-            raise UnknownName("the profile has no field", key, [*fields_of(self.number), *self._definition.names]) if isinstance(key, str) else KeyError(key)
+            if not isinstance(key, str):
+                raise KeyError(key)
+            raise UnknownName("the profile has no field", key, [*fields_of(self.number), *self._definition.names])
         for entry in self._definition.entries:
             if entry.native == number and entry.index is not None:
                 value = entry.read(self._block)
@@ -244,10 +256,10 @@ class Message(Mapping[Key, Any]):
         return own
 
     @property
-    def times(self) -> Dict[Key, Optional[Time]]:
-        """The fields that are times, as `when` has them: `timestamp`, which is `time`, where the message has one; those that the profile
-        calls times, such as `start_time`; those of the caller's `names`. `local_timestamp` is one by the clock of the place, and has no
-        zone. None stands for no value."""
+    def times(self) -> dict[Key, Optional[Time]]:
+        """The fields that are times, as `when` has them: `timestamp`, which is `time`, where the message has one; those
+        that the profile calls times, such as `start_time`; those of the caller's `names`. `local_timestamp` is one by
+        the clock of the place, and has no zone. None stands for no value."""
         found = {key: _time_of(entry, self._block) for key, entry in self._definition.keys.items() if entry.type}
         if self.time is not None:
             found["timestamp"] = self.time
@@ -263,7 +275,8 @@ class Message(Mapping[Key, Any]):
         return Position(degrees(lat), degrees(long)) if isinstance(lat, int) and isinstance(long, int) else None
 
     def unit(self, key: Key) -> Optional[str]:
-        """Returns the unit of a field, as 'bpm', or None where nothing names one. It raises KeyError where there is no such field."""
+        """Returns the unit of a field, as 'bpm', or None where nothing names one. It raises KeyError where there is no
+        such field."""
         return self._entry(key).unit
 
     def field(self, key: Key) -> Field:
@@ -277,12 +290,13 @@ class Message(Mapping[Key, Any]):
         return entry
 
     @property
-    def fields(self) -> Tuple[Field, ...]:
+    def fields(self) -> tuple[Field, ...]:
         """All fields, in the order of the definition, and then all developer fields."""
         return tuple(Field(self._block, entry) for entry in self._definition.entries)
 
-    def as_dict(self) -> Dict[str, Value]:
-        """Returns the values by their names; where there is none, by `field_N`, or `dev_I_N`, I being the developer data index."""
+    def as_dict(self) -> dict[str, Value]:
+        """Returns the values by their names; where there is none, by `field_N`, or `dev_I_N`, I being the developer
+        data index."""
         block = self._block
         return {name: entry.read(block) for name, entry in self._definition.labels.items()}
 
@@ -315,13 +329,14 @@ class Message(Mapping[Key, Any]):
 
     @property
     def time(self) -> Optional[Time]:
-        """The time of the message, as `when` has it: that of field 253 where it is valid, else that of a compressed timestamp header;
-        None where it has none."""
+        """The time of the message, as `when` has it: that of field 253 where it is valid, else that of a compressed
+        timestamp header; None where it has none."""
         return when(self.seconds)
 
     @property
     def seconds(self) -> Optional[int]:
-        """The time of the message in seconds since 1989-12-31T00:00:00 UTC, or since the device began; None where it has none."""
+        """The time of the message in seconds since 1989-12-31T00:00:00 UTC, or since the device began; None where it
+        has none."""
         has_time = self._block[AT_MESSAGE_BITS] & TOLD_TIME
         seconds: Optional[int] = _TIME(self._block, AT_MESSAGE_TIME)[0] if has_time else None
         return seconds
@@ -370,7 +385,8 @@ class Message(Mapping[Key, Any]):
     def _repr_html_(self) -> str:
         """The fields as a table, for notebooks."""
         rows = [(name, value, self._definition.labels[name].unit or "") for name, value in self.as_dict().items()]
-        cells = "".join("<tr>" + "".join(f"<td>{html.escape(str(cell))}</td>" for cell in row) + "</tr>" for row in rows)
+        told = ("".join(f"<td>{html.escape(str(cell))}</td>" for cell in row) for row in rows)
+        cells = "".join(f"<tr>{row}</tr>" for row in told)
         title = html.escape(f"{self.name or f'message {self.number}'} {self.time or ''}".strip())
         return f"<table><caption>{title}</caption><tr><th>field</th><th>value</th><th>unit</th></tr>{cells}</table>"
 

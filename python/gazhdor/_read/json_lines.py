@@ -2,20 +2,22 @@
 import datetime
 import json
 import math
-from typing import Any, Callable, List, NamedTuple, Optional, Tuple
+from collections.abc import Callable
+from typing import Any, NamedTuple, Optional
 
-from ._messages import Message
-from ._times import Time
-from ._values import Definition, Reader
+from .._times import Time
+from .messages import Message
+from .values import Definition, Reader
 
 _text: Callable[[Any], str] = json.JSONEncoder(ensure_ascii=False, allow_nan=False, separators=(",", ":")).encode
 
 
 class _Known(NamedTuple):
-    """What the lines of all messages of a definition have: their name and number; each field with its name before it; their units."""
+    """What the lines of all messages of a definition have: their name and number; each field with its name before it;
+    their units."""
 
     front: str
-    fields: List[Tuple[str, Reader]]
+    fields: list[tuple[str, Reader]]
     units: str
 
 
@@ -28,7 +30,8 @@ def _known(definition: Definition) -> _Known:
         fields = [(f",{_text(name)}:", entry.read) for name, entry in definition.labels.items()]
         if fields:
             fields[0] = fields[0][0][1:], fields[0][1]
-        known = definition.made["json"] = _Known(f'{{"message":{name},"number":{definition.number},"file":', fields, f'}},"units":{_text(units)}}}')
+        front = f'{{"message":{name},"number":{definition.number},"file":'
+        known = definition.made["json"] = _Known(front, fields, f'}},"units":{_text(units)}}}')
     return known
 
 
@@ -56,10 +59,12 @@ def _value(value: Any) -> str:
 
 
 def line(message: Message) -> str:
-    """The message as a line of JSON, without its end: what it is and where, its time, what is accumulated, the values of its fields,
-    and their units. A field without a name is `field_N`, or `dev_I_N`, I being its developer data index."""
+    """The message as a line of JSON, without its end: what it is and where, its time, what is accumulated, the values
+    of its fields, and their units. A field without a name is `field_N`, or `dev_I_N`, I being its developer data
+    index."""
     block, known = message._block, _known(message._definition)
-    parts = [known.front, f'{message.file},"place":{message.place},"local":{message.local},"time":{_time(message.time)}']
+    where = f'{message.file},"place":{message.place},"local":{message.local}'
+    parts = [known.front, f'{where},"time":{_time(message.time)}']
     if message._definition.is_counted:
         for name in ("speed", "distance", "total_cycles", "accumulated_power"):
             amount = getattr(message, name)

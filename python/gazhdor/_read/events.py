@@ -1,13 +1,10 @@
 """All that files have, in their order: headers, definition messages, messages, ends."""
 import struct
-from typing import Any, Iterator, Optional, Tuple, Union
+from collections.abc import Iterator
+from typing import Any, Optional, Union
 
-from ._blocks import Walk
-from ._layout import KINDS, FieldDefinition, fields_of_block
-from ._messages import Message
-from ._names import Names
-from ._natives import Natives
-from ._numbers import (
+from .._names import Names
+from .._numbers import (
     AT_DEFINITION_ARCHITECTURE,
     AT_DEFINITION_BITS,
     AT_DEFINITION_LOCAL,
@@ -27,16 +24,21 @@ from ._numbers import (
     MESSAGE,
     SAYS_DEVELOPERS,
 )
-from ._values import Definition
-from .errors import StreamBroken
+from .._write.definitions import KINDS, FieldDefinition, fields_of_block
+from ..errors import StreamBroken
+from .blocks import Walk
+from .messages import Message
+from .native_fields import Natives
+from .values import Definition
 
-_FRONT, _FILE, _PLACE = struct.Struct("<IBBB").unpack_from, struct.Struct("<I").unpack_from, struct.Struct("<Q").unpack_from
+_FRONT, _FILE = struct.Struct("<IBBB").unpack_from, struct.Struct("<I").unpack_from
+_PLACE = struct.Struct("<Q").unpack_from
 _DATA, _PROFILE = struct.Struct("<I").unpack_from, struct.Struct("<Q").unpack_from
 
 
 class Event:
-    """A header, a definition message or the end of a file. `file` is the number of the file in the chain, from 1, `place` the place of its
-    first byte in the source, from 0."""
+    """A header, a definition message or the end of a file. `file` is the number of the file in the chain, from 1,
+    `place` the place of its first byte in the source, from 0."""
 
     __slots__ = ("_block",)
 
@@ -113,8 +115,8 @@ class DefinitionMessage(Event):
     local         local message type
     big           whether its numbers and those of its messages are big endian
     reserved      its reserved byte
-    fields        a `FieldDefinition` for each field, and then for each developer field: `number`, `base`, the code of its base type,
-                  `size`, `developer`, the developer data index, or None
+    fields        a `FieldDefinition` for each field, and then for each developer field: `number`, `base`, the code of
+                  its base type, `size`, `developer`, the developer data index, or None
     says_developers  whether its record header says that there are developer fields
     """
 
@@ -149,7 +151,7 @@ class DefinitionMessage(Event):
         return self._block[AT_DEFINITION_BITS] & SAYS_DEVELOPERS != 0
 
     @property
-    def fields(self) -> Tuple[FieldDefinition, ...]:
+    def fields(self) -> tuple[FieldDefinition, ...]:
         return fields_of_block(self._block)
 
     def __reduce__(self) -> Any:

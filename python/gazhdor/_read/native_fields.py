@@ -1,8 +1,9 @@
-"""The fields that developer fields stand for, as field description messages say it (FIT protocol, "Developer Fields")."""
-from typing import Dict, Optional, Tuple
+"""The fields that developer fields stand for, as field description messages say it (FIT protocol, "Developer
+Fields")."""
+from typing import Optional
 
-from ._numbers import AT_DEFINITION_MESSAGE, SIGNED
-from ._values import Definition, Developer, Entry, developers
+from .._numbers import AT_DEFINITION_MESSAGE, SIGNED
+from .values import Definition, Developer, Entry, developers
 
 DESCRIPTION, DEVELOPER_DATA = OF_DEVELOPERS = 206, 207
 _INDEX, _NUMBER, _TYPE, _MESSAGE, _FIELD = 0, 1, 2, 14, 15
@@ -21,7 +22,7 @@ class Natives:
 
     def __init__(self) -> None:
         # Of each developer field that stands for one the message, where it is of one, and the field.
-        self._told: Dict[Developer, Tuple[Optional[int], int]] = {}
+        self._told: dict[Developer, tuple[Optional[int], int]] = {}
 
     def learn(self, definition: Definition, block: bytes) -> None:
         """Takes in a field description message."""
@@ -37,7 +38,7 @@ class Natives:
             message = lone_number(get(_MESSAGE), 2, block)
             self._told[index, number] = None if message == _NO_MESSAGE else message, native
 
-    def of(self, definition: bytes) -> Dict[Developer, int]:
+    def of(self, definition: bytes) -> dict[Developer, int]:
         """The fields that developer fields of a definition stand for, by its block."""
         if not self._told:
             return {}

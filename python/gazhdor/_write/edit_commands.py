@@ -1,10 +1,11 @@
 """The commands that write changed files: edit IN OUT, and join FILE FILE.. OUT."""
 import contextlib
 import sys
-from typing import Any, Iterator, List, NamedTuple, Tuple
+from collections.abc import Iterator
+from typing import Any, NamedTuple
 
-from ._edit import Change, edit, join, time_of
-from .errors import FitError
+from ..errors import FitError
+from .edits import Change, edit, join, time_of
 
 COMMANDS = ("edit", "join")
 USAGE = """       python3 -m gazhdor edit [--drop FIELD].. [--shift SECONDS] [--from TIME] [--to TIME] IN OUT
@@ -16,12 +17,13 @@ class _Asked(NamedTuple):
 
     change: Change
     one: bool
-    paths: List[str]
+    paths: list[str]
 
 
-def _asked(words: List[str]) -> _Asked:
+def _asked(words: list[str]) -> _Asked:
     """What the words after a command ask for. It raises ValueError for what isn't understood."""
-    change, one, paths = Change(), False, []  # type: Change, bool, List[str]
+    change, one = Change(), False
+    paths: list[str] = []
     rest = iter(words)
     for word in rest:
         if word == "--":
@@ -63,7 +65,7 @@ def _opened(path: str) -> Iterator[Any]:
             yield file
 
 
-def _do(command: str, asked: _Asked) -> Tuple[int, str]:
+def _do(command: str, asked: _Asked) -> tuple[int, str]:
     """Does a command, and returns its status and what standard error is to say."""
     *paths, into = asked.paths
     sink: Any = sys.stdout.buffer if into == "-" else into
@@ -73,14 +75,18 @@ def _do(command: str, asked: _Asked) -> Tuple[int, str]:
             join(sources, sink, asked.one)
             return 0, ""
         counts = edit(sources[0], sink, asked.change)
-    return 0, "".join(f"emptied: {message} {field}, {count} times\n" for (message, field), count in sorted(counts.items()))
+    emptied = sorted(counts.items())
+    return 0, "".join(f"emptied: {message} {field}, {count} times\n" for (message, field), count in emptied)
 
 
-def run(words: List[str]) -> int:
+def run(words: list[str]) -> int:
     """Does what the words say, and returns the exit status. Where it isn't 0, nothing is written."""
     try:
         asked = _asked(words[1:])
-        is_well = len(asked.paths) == 2 and not asked.one if words[0] == "edit" else len(asked.paths) > 2 and asked.change == Change()
+        if words[0] == "edit":
+            is_well = len(asked.paths) == 2 and not asked.one
+        else:
+            is_well = len(asked.paths) > 2 and asked.change == Change()
         if not is_well:
             raise ValueError("it takes IN and OUT" if words[0] == "edit" else "it takes two FILEs or more, and OUT")
     except ValueError as error:

@@ -1,11 +1,11 @@
 """What columns are made of: the blocks of many messages together, those of one definition in one piece of memory."""
 import datetime
+from collections.abc import Iterable, Iterator
 from itertools import repeat
-from typing import Any, Dict, Iterable, Iterator, List, NamedTuple, Optional, Tuple
+from typing import Any, NamedTuple, Optional
 
-from ._blocks import Walk
-from ._names import Names
-from ._numbers import (
+from .._names import Names
+from .._numbers import (
     AT_FILE,
     AT_MESSAGE_CYCLES,
     AT_MESSAGE_DISTANCE,
@@ -17,12 +17,13 @@ from ._numbers import (
     FLOAT,
     NO_TIME,
 )
-from ._profile import Kind, see_fields
-from ._sources import Source
-from ._streams import each
-from ._times import EPOCH, SYSTEM_TIMES, when
-from ._values import Definition, Entry, Key, as_value, degrees, whole_number
-from .errors import FitError, TooManyCells
+from .._profile import Kind, see_fields
+from .._sources import Source
+from .._times import EPOCH, SYSTEM_TIMES, when
+from ..errors import FitError, TooManyCells
+from .blocks import Walk
+from .streams import each
+from .values import Definition, Entry, Key, as_value, degrees, whole_number
 
 TIME = "timestamp"
 _BATCH = 1 << 18  # At least that many bytes of blocks are taken at once.
@@ -40,7 +41,8 @@ class Cell(NamedTuple):
     form: str = VALUE
 
 
-# What a message tells of itself, by the names of its attributes: where it stands in each block, and in those that have counters.
+# What a message tells of itself, by the names of its attributes: where it stands in each block, and in those that have
+# counters.
 _SECONDS = whole_number(AT_MESSAGE_TIME, 4)
 _OWN = {
     ".file": whole_number(AT_FILE, 4),
@@ -75,21 +77,22 @@ def _cell(definition: Definition, key: Key, times: bool) -> Optional[Cell]:
     return Cell(entry, entry.type or VALUE if times else VALUE) if entry and entry.count else None
 
 
-def _own_keys(definition: Definition) -> List[Key]:
+def _own_keys(definition: Definition) -> list[Key]:
     """The keys of all fields that the messages of a definition have, but of the time."""
     return [key for key, entry in definition.keys.items() if entry.key != 253]
 
 
 class Part:
-    """Some messages of one definition: their blocks, how many messages come before each run of them, and how many are in it."""
+    """Some messages of one definition: their blocks, how many messages come before each run of them, and how many are
+    in it."""
 
     __slots__ = ("length", "blocks", "before", "counts", "view", "messages", "_where")
 
     def __init__(self, length: int) -> None:
         self.length = length
-        self.blocks: List[bytes] = []
-        self.before: List[int] = []
-        self.counts: List[int] = []
+        self.blocks: list[bytes] = []
+        self.before: list[int] = []
+        self.counts: list[int] = []
         self._where: Any = None
 
     def join(self) -> None:
@@ -116,10 +119,11 @@ class Part:
             return self.rows
         if self._where is None:
             counts = numpy.array(self.counts)
-            self._where = numpy.repeat(numpy.array(self.before) - (numpy.cumsum(counts) - counts), counts) + numpy.arange(self.messages)
+            begins = numpy.repeat(numpy.array(self.before) - (numpy.cumsum(counts) - counts), counts)
+            self._where = begins + numpy.arange(self.messages)
         return self._where
 
-    def put(self, column: List[Any], values: List[Any]) -> None:
+    def put(self, column: list[Any], values: list[Any]) -> None:
         """Puts the values of its messages into a column."""
         if self.is_together:
             column[self.rows] = values
@@ -132,17 +136,17 @@ class Part:
                 column[row : row + count] = values[at : at + count]
                 at += count
 
-    def items(self, at: int, code: str) -> List[Any]:
+    def items(self, at: int, code: str) -> list[Any]:
         """The items at a place in each message."""
         items = self.view.cast(code)
-        found: List[Any] = items[at // items.itemsize :: self.length // items.itemsize].tolist()
+        found: list[Any] = items[at // items.itemsize :: self.length // items.itemsize].tolist()
         return found
 
     @property
     def has_times(self) -> bool:
         return set(self.items(AT_MESSAGE_TIME, "I")) != {NO_TIME}
 
-    def values(self, cell: Cell) -> List[Any]:
+    def values(self, cell: Cell) -> list[Any]:
         """What a column has of its messages."""
         entry = cell.entry
         if entry.kind > FLOAT:
@@ -151,12 +155,12 @@ class Part:
         found = [told(cell, *self._numbers(entry, entry.begins + k * entry.width)) for k in range(entry.count)]
         return found[0] if entry.count == 1 else list(zip(*found))
 
-    def _numbers(self, entry: Entry, at: int) -> Tuple[List[Any], List[Any]]:
+    def _numbers(self, entry: Entry, at: int) -> tuple[list[Any], list[Any]]:
         items = self.items(at, entry.item_code)
         return items, self.items(at, entry.float_code) if entry.kind == FLOAT else items
 
 
-def told(cell: Cell, items: List[Any], numbers: List[Any]) -> List[Any]:
+def told(cell: Cell, items: list[Any], numbers: list[Any]) -> list[Any]:
     """The values of items, which are also given as numbers, as a message has them."""
     entry, form = cell
     if form in (DATE, LOCAL) and not entry.is_scaled:
@@ -165,10 +169,13 @@ def told(cell: Cell, items: List[Any], numbers: List[Any]) -> List[Any]:
         numbers = list(map(degrees, numbers))
     elif entry.is_scaled:
         value, scale = as_value(entry), entry.scale
-        numbers = [number / scale for number in numbers] if entry.offset == 0 and scale != 1 else list(map(value, numbers))
+        is_lone = entry.offset == 0 and scale != 1
+        numbers = [number / scale for number in numbers] if is_lone else list(map(value, numbers))
     if form in (DATE, LOCAL):
         return [None if item == entry.invalid else _time(number, form == LOCAL) for item, number in zip(items, numbers)]
-    return [None if item == entry.invalid else number for item, number in zip(items, numbers)] if entry.invalid in items else numbers
+    if entry.invalid not in items:
+        return numbers
+    return [None if item == entry.invalid else number for item, number in zip(items, numbers)]
 
 
 def _time(seconds: Any, is_local: bool) -> Any:
@@ -176,7 +183,7 @@ def _time(seconds: Any, is_local: bool) -> Any:
     return time.replace(tzinfo=None) if is_local and isinstance(time, datetime.datetime) else time
 
 
-def _times(seconds: List[int], invalid: int, is_local: bool) -> List[Any]:
+def _times(seconds: list[int], invalid: int, is_local: bool) -> list[Any]:
     if SYSTEM_TIMES <= min(seconds) and invalid not in seconds:
         epoch = EPOCH.replace(tzinfo=None) if is_local else EPOCH
         return list(map(epoch.__add__, map(datetime.timedelta, repeat(0), seconds)))
@@ -192,10 +199,12 @@ def _up_to_fault(parts: Iterator[bytes], partial: bool) -> Iterator[bytes]:
             raise
 
 
-def _parts(source: Source, message: Kind, partial: bool, names: Optional[Names]) -> Iterator[Tuple[Definition, Part]]:
+def _parts(source: Source, message: Kind, partial: bool, names: Optional[Names]) -> Iterator[tuple[Definition, Part]]:
     if not isinstance(message, (str, int)):
         raise TypeError(f"a message is named by its name or its number, and not by {type(message).__name__}")
-    walk, taken, size, row = Walk(message, names), {}, 0, 0  # type: Walk, Dict[int, Tuple[Definition, Part]], int, int
+    walk = Walk(message, names)
+    taken: dict[int, tuple[Definition, Part]] = {}
+    size = row = 0
     for blocks in _up_to_fault(each("blocks", source, partial, ahead=False), partial):
         for definition, first, messages, length in walk.runs(blocks):
             if id(definition) not in taken:
@@ -213,16 +222,17 @@ def _parts(source: Source, message: Kind, partial: bool, names: Optional[Names])
 
 
 class Asked(NamedTuple):
-    """What a caller asks for: the fields, or None for all; whether fields that are times are told as such; names of the caller."""
+    """What a caller asks for: the fields, or None for all; whether fields that are times are told as such; names of the
+    caller."""
 
     message: Kind
-    fields: Optional[List[Key]]
+    fields: Optional[list[Key]]
     times: bool
     names: Optional[Names]
 
 
 Values = Any  # the list of a part, or an array
-Piece = Tuple[Part, Cell, Values]
+Piece = tuple[Part, Cell, Values]
 
 
 class Table:
@@ -231,13 +241,14 @@ class Table:
     def __init__(self, asked: Asked, take: Any) -> None:
         self._asked, self._take = asked, take
         self.rows = self._filled = 0
-        self._found: Dict[Key, List[Piece]] = {}
-        self._keys: Dict[Key, None] = dict.fromkeys(asked.fields or [])
+        self._found: dict[Key, list[Piece]] = {}
+        self._keys: dict[Key, None] = dict.fromkeys(asked.fields or [])
         self._has_times = False
-        self._first: List[Definition] = []
-        # The numbers of developer fields by their names; and of all cells that are told alike one, as there may be many definitions.
-        self._developer: Dict[Key, Key] = {}
-        self._alike: Dict[Any, Cell] = {}
+        self._first: list[Definition] = []
+        # The numbers of developer fields by their names; and of all cells that are told alike one, as there may be many
+        # definitions.
+        self._developer: dict[Key, Key] = {}
+        self._alike: dict[Any, Cell] = {}
 
     def read(self, source: Source, partial: bool) -> None:
         asked = self._asked
@@ -246,7 +257,8 @@ class Table:
             self._add(definition, part)
             part.drop()
         if asked.fields is not None:
-            see_fields(asked.message, [key for key in self._keys if key not in self._found], self._first, _ATTRIBUTES, asked.names)
+            missing = [key for key in self._keys if key not in self._found]
+            see_fields(asked.message, missing, self._first, _ATTRIBUTES, asked.names)
             return
         cells = len(self.keys) * self.rows
         if cells > _FEW_CELLS and cells > _MOST_EMPTY * self._filled:
@@ -261,7 +273,7 @@ class Table:
             self._keys.update(dict.fromkeys(_own_keys(definition)))
             self._has_times = self._has_times or 253 in definition.by_key or part.has_times
             keys = dict.fromkeys([TIME, *definition.by_key])
-        made: Dict[Tuple[int, str], Values] = {}
+        made: dict[tuple[int, str], Values] = {}
         for key in keys:
             cell = _cell(definition, key, self._asked.times)
             if cell is None:
@@ -277,18 +289,20 @@ class Table:
         entry = cell.entry
         if entry.index is not None and isinstance(key, str):
             self._developer.setdefault(key, entry.key)
-        return self._alike.setdefault((entry.kind, entry.width, entry.is_number, entry.scale, entry.offset, entry.invalid, cell.form), cell)
+        told_by = entry.kind, entry.width, entry.is_number, entry.scale, entry.offset, entry.invalid, cell.form
+        return self._alike.setdefault(told_by, cell)
 
     @property
-    def keys(self) -> List[Key]:
-        """The columns: those that are asked for, or the time, where there is one, and each field that one of the messages has."""
-        first: List[Key] = [TIME] if self._asked.fields is None and self._has_times else []
+    def keys(self) -> list[Key]:
+        """The columns: those that are asked for, or the time, where there is one, and each field that one of the
+        messages has."""
+        first: list[Key] = [TIME] if self._asked.fields is None and self._has_times else []
         return first + list(self._keys)
 
     def developer(self, key: Key) -> Optional[Key]:
         """The numbers of the developer field that a column has a name of, or None."""
         return self._developer.get(key)
 
-    def pieces(self, key: Key) -> List[Piece]:
+    def pieces(self, key: Key) -> list[Piece]:
         """What a column is put together of. It is forgotten here."""
         return self._found.pop(key, [])

@@ -1,10 +1,11 @@
 """What a definition message says of its fields, and its block (docs/BLOCKS.md)."""
 import struct
-from typing import Dict, Iterable, List, NamedTuple, Optional, Tuple
+from collections.abc import Iterable
+from typing import NamedTuple, Optional
 
-from ._bases import Base, base_of
-from ._names import Names
-from ._numbers import (
+from .._base_types import Base, base_of
+from .._names import Names
+from .._numbers import (
     AT_DEFINITION_FIELDS,
     AT_DEFINITION_MESSAGE,
     AT_DEFINITION_MESSAGE_LENGTH,
@@ -28,8 +29,8 @@ from ._numbers import (
     NO_TIME,
     SAYS_DEVELOPERS,
 )
-from ._profile import Info, info_of, name_of
-from ._values import Definition, Key, first_entry, told
+from .._profile import Info, info_of, name_of
+from .._read.values import Definition, Key, first_entry, told
 
 _HEADER, _DEFINITION = struct.Struct(HEADER_FORMAT), struct.Struct(DEFINITION_FORMAT)
 _ENTRY, _MESSAGE = struct.Struct(ENTRY_FORMAT), struct.Struct(MESSAGE_FORMAT)
@@ -42,8 +43,8 @@ _USUAL = 128  # An entry with a name and a unit has fewer bytes, unless somebody
 
 
 class FieldDefinition(NamedTuple):
-    """A field as a definition message has it: its number, the code of its base type, its size in bytes, and of a developer field its
-    developer data index. Of a developer field the code is that of its description."""
+    """A field as a definition message has it: its number, the code of its base type, its size in bytes, and of a
+    developer field its developer data index. Of a developer field the code is that of its description."""
 
     number: int
     base: int
@@ -69,8 +70,8 @@ class Form(NamedTuple):
 
 
 class Kept(NamedTuple):
-    """What a definition message has beside its fields: local message type, architecture, reserved byte, and whether it says that there are
-    developer fields; None leaves that to the fields."""
+    """What a definition message has beside its fields: local message type, architecture, reserved byte, and whether it
+    says that there are developer fields; None leaves that to the fields."""
 
     local: int = 0
     big: bool = False
@@ -109,7 +110,7 @@ def _entry(form: Form, begins: int) -> bytes:
 
 def definition_block(message: int, forms: Iterable[Form], kept: Kept = Kept()) -> bytes:
     """The block of a definition message."""
-    entries: List[bytes] = []
+    entries: list[bytes] = []
     begins, developers = AT_MESSAGE_ITEMS, 0
     for form in forms:
         entries.append(_entry(form, begins))
@@ -118,15 +119,17 @@ def definition_block(message: int, forms: Iterable[Form], kept: Kept = Kept()) -
     rest = _text(name_of(message) or "") + b"".join(entries)
     says = developers > 0 if kept.says_developers is None else kept.says_developers
     counts = message, len(entries) - developers, developers, SAYS_DEVELOPERS if says else 0
-    return _DEFINITION.pack(AT_DEFINITION_NAME + len(rest), DEFINITION, kept.local, kept.big, kept.reserved, 0, begins, 0, 0, *counts) + rest
+    front = AT_DEFINITION_NAME + len(rest), DEFINITION, kept.local, kept.big, kept.reserved, 0, begins, 0, 0
+    return _DEFINITION.pack(*front, *counts) + rest
 
 
 class Layouts:
-    """What is known of definitions that are written, by their fields, so that one which comes again isn't looked into again."""
+    """What is known of definitions that are written, by their fields, so that one which comes again isn't looked into
+    again."""
 
     def __init__(self, names: Optional[Names]) -> None:
         self._names = names
-        self._known: Dict[bytes, Definition] = {}
+        self._known: dict[bytes, Definition] = {}
         self._room = _MOST_KNOWN
 
     def of(self, block: bytes) -> Definition:
@@ -161,13 +164,13 @@ def message_length(definition: Definition) -> int:
 
 
 def slim(data: bytes) -> bytes:
-    """The block of a definition message, without names and units where these are so long that many such blocks would take much memory: no
-    file is made of them."""
+    """The block of a definition message, without names and units where these are so long that many such blocks would
+    take much memory: no file is made of them."""
     fields, developers = _COUNTS(data, AT_DEFINITION_FIELDS)
     if len(data) <= 300 + _USUAL * (fields + developers):
         return data
     at = first_entry(data)
-    entries: List[bytes] = []
+    entries: list[bytes] = []
     for _ in range(fields + developers):
         length: int = struct.unpack_from("<H", data, at)[0]
         entries.append(struct.pack("<H", AT_ENTRY_NAME) + data[at + AT_ENTRY_UNIT : at + AT_ENTRY_NAME])
@@ -176,7 +179,7 @@ def slim(data: bytes) -> bytes:
     return struct.pack("<I", AT_KIND + len(made)) + made
 
 
-def fields_of_block(data: bytes) -> Tuple[FieldDefinition, ...]:
+def fields_of_block(data: bytes) -> tuple[FieldDefinition, ...]:
     """The fields of the block of a definition message, the developer fields last."""
     fields, developers = _COUNTS(data, AT_DEFINITION_FIELDS)
     at = first_entry(data)

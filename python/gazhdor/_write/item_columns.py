@@ -1,20 +1,21 @@
 """Columns that are written: the blocks of many messages at once."""
 import array
 import datetime
-from typing import Any, Dict, List, Mapping, Optional
+from collections.abc import Mapping
+from typing import Any, Optional
 
-from ._arrays import is_array, items_of_array, items_of_list
-from ._items import CLEAR, SURE, Packer
-from ._numbers import FLOAT, STRING
-from ._times import EPOCH, SYSTEM_TIMES
-from .errors import WrongValue
+from .._numbers import FLOAT, STRING
+from .._times import EPOCH, SYSTEM_TIMES
+from ..errors import WrongValue
+from .items import CLEAR, SURE, Packer
+from .number_arrays import is_array, items_of_array, items_of_list
 
 _NUMBERS = {int, float, type(None)}
 
 
-def listed(columns: Mapping[Any, Any]) -> Dict[Any, Any]:
+def listed(columns: Mapping[Any, Any]) -> dict[Any, Any]:
     """Each column as a list or an array, all of one length."""
-    found: Dict[Any, Any] = {}
+    found: dict[Any, Any] = {}
     for key, column in columns.items():
         if isinstance(column, (str, bytes, bytearray)):
             raise TypeError(f"a column is a list or an array of values, and not {type(column).__name__}")
@@ -22,7 +23,8 @@ def listed(columns: Mapping[Any, Any]) -> Dict[Any, Any]:
         found[key] = column if is_array(column) else list(column)
     lengths = {key: len(column) for key, column in found.items()}
     if len(set(lengths.values())) > 1:
-        raise ValueError(f"the columns have different lengths: {', '.join(f'{key} {length}' for key, length in lengths.items())}")
+        told = ", ".join(f"{key} {length}" for key, length in lengths.items())
+        raise ValueError(f"the columns have different lengths: {told}")
     return found
 
 
@@ -59,14 +61,17 @@ def _put_bytes(block: bytearray, length: int, pack: Packer, column: Any) -> None
         block[pack.begins + at :: length] = made[at :: pack.size]
 
 
-def _items_of_list(pack: Packer, column: List[Any]) -> Any:
+def _items_of_list(pack: Packer, column: list[Any]) -> Any:
     entry = pack.entry
     if entry.kind == FLOAT:
         made = bytearray()
         for row, value in enumerate(column):
             made += _of_row(pack, pack, _none_of_nan(value), row)
         return array.array(entry.float_code, bytes(made))
-    return array.array(entry.item_code, _quick(pack, column) or [_of_row(pack, pack.item, _none_of_nan(value), row) for row, value in enumerate(column)])
+    items = _quick(pack, column)
+    if not items:
+        items = [_of_row(pack, pack.item, _none_of_nan(value), row) for row, value in enumerate(column)]
+    return array.array(entry.item_code, items)
 
 
 def _none_of_nan(value: Any) -> Any:
@@ -82,8 +87,9 @@ def _of_row(pack: Packer, make: Any, value: Any, row: int) -> Any:
         raise
 
 
-def _quick(pack: Packer, column: List[Any]) -> Optional[List[int]]:
-    """The items of whole numbers, of floats or of times, all at once; None where one of them has to be looked at for itself."""
+def _quick(pack: Packer, column: list[Any]) -> Optional[list[int]]:
+    """The items of whole numbers, of floats or of times, all at once; None where one of them has to be looked at for
+    itself."""
     types = set(map(type, column))
     if types == {int} and pack.takes_items:
         items = column
@@ -97,7 +103,7 @@ def _quick(pack: Packer, column: List[Any]) -> Optional[List[int]]:
     return items if pack.has(min(items), max(items)) and pack.entry.invalid not in items else None
 
 
-def _seconds(pack: Packer, column: List[datetime.datetime]) -> Optional[List[int]]:
+def _seconds(pack: Packer, column: list[datetime.datetime]) -> Optional[list[int]]:
     if pack.entry.type != "date_time" or pack.entry.is_scaled:
         return None
     try:
@@ -107,13 +113,13 @@ def _seconds(pack: Packer, column: List[datetime.datetime]) -> Optional[List[int
     return found if min(found) >= SYSTEM_TIMES else None
 
 
-def _steps(pack: Packer, column: List[float]) -> Optional[List[int]]:
+def _steps(pack: Packer, column: list[float]) -> Optional[list[int]]:
     scale, shift = float(pack.scale), float(pack.shift)
     if not (abs(shift) < SURE and abs(min(column)) * scale < SURE and abs(max(column)) * scale < SURE):
         return None
     steps = [value * scale + shift for value in column]
     try:
-        items: List[int] = [round(step) for step in steps]
+        items: list[int] = [round(step) for step in steps]
     except ValueError:
         return None
     for row, (step, item) in enumerate(zip(steps, items)):

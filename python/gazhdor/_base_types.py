@@ -1,11 +1,12 @@
 """The base types of the FIT protocol."""
-from typing import Dict, NamedTuple, Tuple, Union
+from typing import NamedTuple, Union
 
 from ._numbers import BASE_TYPES, SIGNED
 
 
 class Base(NamedTuple):
-    """A base type: its name and code, what its items stand for, the bytes of one, and the item that stands for no value."""
+    """A base type: its name and code, what its items stand for, the bytes of one, and the item that stands for no
+    value."""
 
     name: str
     code: int
@@ -14,7 +15,7 @@ class Base(NamedTuple):
     invalid: int
 
     @property
-    def range(self) -> Tuple[int, int]:
+    def range(self) -> tuple[int, int]:
         """The least and the greatest item that is a value."""
         bits = 8 * self.width
         if self.kind == SIGNED:
@@ -24,8 +25,8 @@ class Base(NamedTuple):
 
 BASES = tuple(Base(*row) for row in BASE_TYPES)
 BYTE = next(base for base in BASES if base.name == "byte")
-_BY_NAME: Dict[str, Base] = {base.name: base for base in BASES}
-_BY_CODE: Dict[int, Base] = {base.code: base for base in BASES}
+_BY_NAME: dict[str, Base] = {base.name: base for base in BASES}
+_BY_CODE: dict[int, Base] = {base.code: base for base in BASES}
 
 
 def base_of(code: int) -> Base:
@@ -39,4 +40,6 @@ def base_named(told: Union[str, int]) -> Base:
         return _BY_NAME[told]
     if isinstance(told, int) and not isinstance(told, bool) and 0 <= told <= 255:
         return base_of(told)
-    raise ValueError(f"{told!r} is no base type: {', '.join(_BY_NAME)}, or a code of 0 to 255" if isinstance(told, (str, int)) else "a base type is a name or a code")
+    if not isinstance(told, (str, int)):
+        raise ValueError("a base type is a name or a code")
+    raise ValueError(f"{told!r} is no base type: {', '.join(_BY_NAME)}, or a code of 0 to 255")

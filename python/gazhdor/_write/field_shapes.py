@@ -1,17 +1,19 @@
 """What a caller says of a message that is to be written: its fields, and how many items each has."""
-from typing import Any, Dict, Iterable, List, NamedTuple, Optional, Tuple, Union
+from collections.abc import Iterable
+from typing import Any, NamedTuple, Optional, Union
 
-from ._bases import Base, base_named, base_of
-from ._items import several, text_bytes
-from ._layout import FieldDefinition, Form, form_of
-from ._names import Names
-from ._numbers import BYTES, STRING
-from ._profile import Info, Kind, UnknownName, fields_of, info_of, name_of, number_of, profile
-from ._values import Key, label
+from .._base_types import Base, base_named, base_of
+from .._names import Names
+from .._numbers import BYTES, STRING
+from .._profile import Info, Kind, UnknownName, fields_of, info_of, name_of, number_of, profile
+from .._read.values import Key, label
+from .definitions import FieldDefinition, Form, form_of
+from .items import several, text_bytes
 
 
 class DeveloperField(NamedTuple):
-    """A developer field that a file describes, of `Writer.describe`: it names the field in `define`, and where a message is written."""
+    """A developer field that a file describes, of `Writer.describe`: it names the field in `define`, and where a
+    message is written."""
 
     developer: int
     number: int
@@ -20,11 +22,11 @@ class DeveloperField(NamedTuple):
     base: int
 
     @property
-    def key(self) -> Tuple[int, int]:
+    def key(self) -> tuple[int, int]:
         return self.developer, self.number
 
 
-Spec = Union[Key, DeveloperField, FieldDefinition, Tuple[Any, Any], Tuple[Any, Any, int]]
+Spec = Union[Key, DeveloperField, FieldDefinition, tuple[Any, Any], tuple[Any, Any, int]]
 
 
 class Shape(NamedTuple):
@@ -45,7 +47,7 @@ class Shape(NamedTuple):
         """The size that it has where nothing is written."""
         return self.base.width if self.size is None else self.size
 
-    def needed(self, value: Any, size: int) -> Tuple[Any, int]:
+    def needed(self, value: Any, size: int) -> tuple[Any, int]:
         """A value, whose items may come one after another, and the size that it needs."""
         if self.size is not None or value is None:
             return value, size
@@ -66,13 +68,14 @@ def message_number(message: Kind, names: Optional[Names]) -> int:
         raise TypeError(f"a message is named by its name or its number, and not by {type(message).__name__}")
     number = number_of(message, names)
     if number is None:
-        raise UnknownName("no message is named", str(message), [*profile(), *(names.messages if names else ())], "; one that has no name is named by its number")
+        more = "; one that has no name is named by its number"
+        raise UnknownName("no message is named", str(message), [*profile(), *(names.messages if names else ())], more)
     if not 0 <= number <= 0xFFFF:
         raise ValueError(f"a message is 0 to 65535, and not {number}" if number < 2**64 else "a message is 0 to 65535")
     return number
 
 
-def _known(message: int, names: Optional[Names]) -> Dict[str, int]:
+def _known(message: int, names: Optional[Names]) -> dict[str, int]:
     """The numbers of the fields of a message that have names."""
     own = {number: named.name for number, named in names.fields(message).items() if named.name} if names else {}
     known = {name: number for name, number in fields_of(message).items() if number not in own}
@@ -89,14 +92,15 @@ def _usual(message: int, number: int, names: Optional[Names]) -> Optional[Base]:
 
 
 class Shapes:
-    """Makes the fields of a message of what a caller says. `developers` are the developer fields that the file describes, by their keys."""
+    """Makes the fields of a message of what a caller says. `developers` are the developer fields that the file
+    describes, by their keys."""
 
-    def __init__(self, message: int, names: Optional[Names], developers: Dict[Key, DeveloperField]) -> None:
+    def __init__(self, message: int, names: Optional[Names], developers: dict[Key, DeveloperField]) -> None:
         self._message, self._names, self._developers = message, names, developers
 
-    def all(self, told: Union[str, Iterable[Spec]]) -> List[Shape]:
+    def all(self, told: Union[str, Iterable[Spec]]) -> list[Shape]:
         """The shapes of fields, the developer fields last."""
-        specs: List[Spec] = [*told.split()] if isinstance(told, str) else list(told)
+        specs: list[Spec] = [*told.split()] if isinstance(told, str) else list(told)
         shapes = [self.one(spec) for spec in specs]
         keys = [shape.key for shape in shapes]
         if len(set(keys)) < len(keys):
@@ -105,19 +109,25 @@ class Shapes:
 
     def one(self, spec: Spec) -> Shape:
         if isinstance(spec, FieldDefinition):
-            return Shape(spec.key, base_of(spec.base), byte("a size", spec.size), byte("a field", spec.number), spec.developer, self._info(spec.key))
-        key, told, count = spec, None, None  # type: Any, Any, Any
+            size, number = byte("a size", spec.size), byte("a field", spec.number)
+            return Shape(spec.key, base_of(spec.base), size, number, spec.developer, self._info(spec.key))
+        key: Any = spec
+        told: Any = None
+        count: Any = None
         if isinstance(spec, tuple) and not isinstance(spec, DeveloperField) and not _is_numbers(spec):
             key, told, count = (*spec, None)[:3]
         shape = self._developer(key, told) or self._field(key, told)
-        return shape if count is None else shape._replace(size=byte("a size", byte("a count", count) * shape.base.width))
+        if count is None:
+            return shape
+        return shape._replace(size=byte("a size", byte("a count", count) * shape.base.width))
 
     def _info(self, key: Key) -> Optional[Info]:
         developer = self._developers.get(key) if isinstance(key, tuple) else None
         return Info(developer.name, developer.unit, 1, 0, "") if developer else None
 
     def _developer(self, key: Any, told: Any) -> Optional[Shape]:
-        """A developer field that is named by itself, by its numbers or by its name, where that isn't one of the profile."""
+        """A developer field that is named by itself, by its numbers or by its name, where that isn't one of the
+        profile."""
         found: Optional[DeveloperField] = key if isinstance(key, DeveloperField) else None
         if found is None and isinstance(key, (str, tuple)):
             found = self._developers.get(key)  # type: ignore[arg-type]
@@ -127,14 +137,16 @@ class Shapes:
             return None
         if told is not None and base_named(told).code != found.base:
             raise ValueError(f"{found.name!r} is described as {base_of(found.base).name}")
-        return Shape(found.key, base_of(found.base), None, found.number, found.developer, Info(found.name, found.unit, 1, 0, ""))
+        info = Info(found.name, found.unit, 1, 0, "")
+        return Shape(found.key, base_of(found.base), None, found.number, found.developer, info)
 
     def _field(self, key: Any, told: Any) -> Shape:
         if isinstance(key, str):
             known = _known(self._message, self._names)
             if key not in known:
                 of = name_of(self._message) or f"message {self._message}"
-                raise UnknownName(f"neither the profile nor the file has in {of} a field", key, [*known, *(name for name in self._developers if isinstance(name, str))])
+                others = [*known, *(name for name in self._developers if isinstance(name, str))]
+                raise UnknownName(f"neither the profile nor the file has in {of} a field", key, others)
             number = known[key]
         else:
             number = byte("a field", key)
@@ -144,7 +156,7 @@ class Shapes:
         return Shape(number, base, None, number)
 
 
-def _is_numbers(spec: Tuple[Any, ...]) -> bool:
+def _is_numbers(spec: tuple[Any, ...]) -> bool:
     """Whether a tuple is the key of a developer field."""
     return len(spec) == 2 and all(isinstance(part, int) for part in spec)
 

@@ -1,16 +1,18 @@
-"""What would do in the place of a cell that `from_csv` refuses, by docs/CSV.md. It is told to a user who mends a text by hand."""
+"""What would do in the place of a cell that `from_csv` refuses, by docs/CSV.md. It is told to a user who mends a text
+by hand."""
 import collections
 import csv
 import io
 import itertools
 import re
+from collections.abc import Iterator
 from decimal import Decimal
-from typing import Dict, Iterator, List, NamedTuple, Optional, Tuple
+from typing import NamedTuple, Optional
 
-from ._bases import BASES, BYTE, base_named
-from ._natives import DESCRIPTION
-from ._numbers import FLOAT, SIGNED
-from ._profile import Info, name_of, info_of
+from .._base_types import BASES, BYTE, base_named
+from .._numbers import FLOAT, SIGNED
+from .._profile import Info, info_of, name_of
+from .._read.native_fields import DESCRIPTION
 
 _MOST = 1 << 26  # A text of more characters gets no advice: it takes some seconds to find the place.
 _NO_INFO = Info("", "", 1, 0, "")
@@ -21,7 +23,13 @@ _FLOATS = {base.code: base.width for base in BASES if base.kind == FLOAT}
 # Of each row what its cells may be, from the second on, where that needs nothing of the rows before.
 _HEAD = "row,a,b,c,d,e,f"
 _CELLS = {
-    "file": ("12, or 14 to 255", "0 to 47", "0 to 65535", "none, where the header has 12 bytes, else sum or zero", "0x and two capital hexadecimal digits for each byte of the header after the fourteenth"),
+    "file": (
+        "12, or 14 to 255",
+        "0 to 47",
+        "0 to 65535",
+        "none, where the header has 12 bytes, else sum or zero",
+        "0x and two capital hexadecimal digits for each byte of the header after the fourteenth",
+    ),
     "def": ("0 to 15", "0 to 255", "little or big", "0 to 65535", "0 to 255", "0 to 255, or empty"),
     "fdef": ("0 to 255", "0 to 255", "0 to 255"),
     "ddef": ("0 to 255", "0 to 255", "0 to 255"),
@@ -41,15 +49,15 @@ class _Rows:
     """What the rows up to now say of the next one."""
 
     def __init__(self) -> None:
-        self.numbers: Dict[int, int] = {}
-        self.fields: Dict[int, List[_Field]] = {}
-        self.described: Dict[Tuple[int, int], Tuple[int, str, str]] = {}
+        self.numbers: dict[int, int] = {}
+        self.fields: dict[int, list[_Field]] = {}
+        self.described: dict[tuple[int, int], tuple[int, str, str]] = {}
         self.next = ["row"]  # what the next row may begin with
         self.local = 0
-        self.left: List[_Field] = []  # the fields of which rows must follow
-        self.values: Dict[int, str] = {}
+        self.left: list[_Field] = []  # the fields of which rows must follow
+        self.values: dict[int, str] = {}
 
-    def take(self, cells: List[str]) -> None:
+    def take(self, cells: list[str]) -> None:
         """Takes in a row that is good."""
         kind = cells[0]
         if kind == "def":
@@ -77,7 +85,7 @@ class _Rows:
         """Whether the fields of the message at hand say nothing of later rows."""
         return len(self.left) > 1 and self.numbers[self.local] != DESCRIPTION
 
-    def skip(self, told: Iterator[List[str]]) -> int:
+    def skip(self, told: Iterator[list[str]]) -> int:
         """Passes by the rows of the fields, and returns how many they are."""
         count = len(self.left)
         collections.deque(itertools.islice(told, count), 0)
@@ -99,7 +107,7 @@ class _Rows:
             self.described[int(told[0]), int(told[1])] = int(told[2]), told.get(3, ""), told.get(8, "")
 
 
-def _rows(text: str) -> Iterator[List[str]]:
+def _rows(text: str) -> Iterator[list[str]]:
     return filter(None, csv.reader(io.StringIO(text[1:] if text.startswith("\ufeff") else text, newline="")))
 
 
@@ -116,13 +124,13 @@ def advice(text: str, row: Optional[int], column: Optional[int]) -> Optional[str
             if count + len(rows.left) < row and rows.says_nothing():
                 # All rows of the message come before the place.
                 count += rows.skip(told)
-        cells: List[str] = next(told, [])
+        cells: list[str] = next(told, [])
         return _of_row(rows, cells) if column is None or column == 1 else _of_cell(rows, cells, column)
     except (csv.Error, ValueError, LookupError, ArithmeticError, StopIteration, RecursionError):
         return None  # The rows before aren't what they are taken for.
 
 
-def _of_row(rows: _Rows, cells: List[str]) -> str:
+def _of_row(rows: _Rows, cells: list[str]) -> str:
     if rows.next == ["row"]:
         return f"the first row is {_HEAD}"
     wanted = " or ".join(sorted(set(rows.next), key=rows.next.index))
@@ -131,7 +139,7 @@ def _of_row(rows: _Rows, cells: List[str]) -> str:
     return f"a row has seven cells, and not {len(cells)}" if len(cells) != 7 else f"{_shown(cells[0])}: {wanted}"
 
 
-def _of_cell(rows: _Rows, cells: List[str], column: int) -> Optional[str]:
+def _of_cell(rows: _Rows, cells: list[str], column: int) -> Optional[str]:
     kind, cell = cells[0], cells[column - 1]
     may = _CELLS.get(kind, ())
     if kind == "data":
@@ -147,21 +155,23 @@ def _shown(cell: str) -> str:
     return cell[:80] if cell[:80].isprintable() else ascii(cell[:80])
 
 
-def _of_data(rows: _Rows, cells: List[str]) -> Tuple[str, ...]:
+def _of_data(rows: _Rows, cells: list[str]) -> tuple[str, ...]:
     local = ", ".join(map(str, sorted(rows.numbers))) or "none, as nothing is defined"
     number = next((number for local, number in rows.numbers.items() if str(local) == cells[1]), None)
     name = "" if number is None else f"the message is {name_of(number) or f'message_{number}'}"
-    return f"a local message type that is defined: {local}", "0 to 31, or empty", name, "the time that the rows before give, or empty"
+    of = f"a local message type that is defined: {local}"
+    return of, "0 to 31, or empty", name, "the time that the rows before give, or empty"
 
 
-def _of_field(rows: _Rows, value: str) -> Tuple[str, ...]:
+def _of_field(rows: _Rows, value: str) -> tuple[str, ...]:
     field, message = rows.left[0], rows.numbers[rows.local]
     if field.developer is None:
         told = info_of(message, field.number) or _NO_INFO._replace(name=f"field_{field.number}")
     else:
         _, name, unit = rows.described.get((field.developer, field.number), (0, "", ""))
         told = _NO_INFO._replace(name=name or f"dev_{field.developer}_{field.number}", unit=unit)
-    return f"the name is {told.name}", _of_value(field, told, value), f"the unit is {told.unit}" if told.unit else "an empty cell"
+    unit = f"the unit is {told.unit}" if told.unit else "an empty cell"
+    return f"the name is {told.name}", _of_value(field, told, value), unit
 
 
 def _of_value(field: _Field, told: Info, value: str) -> str:
@@ -184,7 +194,8 @@ def _of_number(item: str, code: int, told: Info) -> Optional[str]:
     """What would do in place of a number; None where it is good."""
     width, has_sign, invalid = _WHOLE[code]
     least, most = (-(2 ** (8 * width - 1)), 2 ** (8 * width - 1) - 1) if has_sign else (0, 256**width - 1)
-    decimals = next(count for count in range(10) if 10**count % told.scale == 0) if (told.scale, told.offset) != (1, 0) else 0
+    is_scaled = (told.scale, told.offset) != (1, 0)
+    decimals = next(count for count in range(10) if 10**count % told.scale == 0) if is_scaled else 0
 
     def shown(raw: int) -> str:
         return str(Decimal((raw - told.scale * told.offset) * 10**decimals // told.scale).scaleb(-decimals))

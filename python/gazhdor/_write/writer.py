@@ -1,15 +1,11 @@
 """Files that are written from values, and from what others have."""
-from typing import Any, Dict, Iterable, List, Mapping, Optional, Set, Tuple, Union
+from collections.abc import Iterable, Mapping
+from typing import Any, Optional, Union
 
-from ._bases import BYTE, base_named
-from ._events import DefinitionMessage, Everything, FileEnd, FileHeader
-from ._header_times import is_out_of_time, with_time
-from ._layout import END, KINDS, FieldDefinition, Kept, Layouts, fields_of_block, header_block, slim
-from ._library import HAS_WRITER, VERSION, exact, library, text_of
-from ._messages import Message
-from ._names import Told, names_of
-from ._natives import DESCRIPTION, DEVELOPER_DATA, OF_DEVELOPERS, lone_number
-from ._numbers import (
+from .._base_types import BYTE, base_named
+from .._library import exact, library, text_of
+from .._names import Told, names_of
+from .._numbers import (
     AT_DEFINITION_DEVELOPERS,
     AT_DEFINITION_LOCAL,
     AT_DEFINITION_MESSAGE,
@@ -20,31 +16,29 @@ from ._numbers import (
     TOLD_TIME,
     UNWRITABLE,
 )
-from ._profile import Kind
-from ._shapes import DeveloperField, Shapes, Spec, byte, message_number
-from ._sinks import Sink, see_sink, write
-from ._times import OWN_TIME
-from ._values import Definition as Known
-from ._values import Key
-from ._written import Definition
-from .errors import BlocksRefused, WrongVersion, judge
+from .._profile import Kind
+from .._read.events import DefinitionMessage, Everything, FileEnd, FileHeader
+from .._read.messages import Message
+from .._read.native_fields import DESCRIPTION, DEVELOPER_DATA, OF_DEVELOPERS, lone_number
+from .._read.values import Definition as Known
+from .._times import OWN_TIME
+from ..errors import BlocksRefused, judge
+from .definitions import END, KINDS, FieldDefinition, Kept, Layouts, fields_of_block, header_block, slim
+from .field_shapes import DeveloperField, Shapes, Spec, byte, message_number
+from .header_times import is_out_of_time, with_time
+from .message_writer import Definition
+from .sinks import Sink, see_sink, write
 
 _LOCALS = 16
 _PROFILE = 21158  # the release that the names of the module are of
 
 
-def _see_library() -> None:
-    if not HAS_WRITER:
-        path = str(library._name)
-        raise WrongVersion(f"{path} is older than the module gazhdor {VERSION}: it makes no files of blocks", path)
-
-
 def from_blocks(blocks: Union[bytes, bytearray, memoryview]) -> bytes:
-    """Returns the bytes of the file or files that blocks say (docs/BLOCKS.md), as `blocks` and `Stream("blocks")` give them. It raises
-    `BlocksRefused` where they say none, with the number and the place of the block that can't stand where it is, and the reason."""
+    """Returns the bytes of the file or files that blocks say (docs/BLOCKS.md), as `blocks` and `Stream("blocks")` give
+    them. It raises `BlocksRefused` where they say none, with the number and the place of the block that can't stand
+    where it is, and the reason."""
     if not isinstance(blocks, (bytes, bytearray, memoryview)):
         raise TypeError(f"from_blocks takes the bytes of blocks, and not {type(blocks).__name__}")
-    _see_library()
     answer, data = text_of(library.gazhdor_from_messages, exact(blocks))
     if answer._status == UNWRITABLE:
         raise BlocksRefused(answer)
@@ -53,26 +47,27 @@ def from_blocks(blocks: Union[bytes, bytearray, memoryview]) -> bytes:
 
 
 class Writer:
-    """A FIT file that is written from values: to a path or a binary file object, at the end of `with`, whole or not at all.
+    """A FIT file that is written from values: to a path or a binary file object, at the end of `with`, whole or not at
+    all.
 
         with gazhdor.Writer("ride.fit") as out:
             out.write("file_id", type=4, manufacturer=255, time_created=start)
             record = out.define("record", "timestamp heart_rate position_lat position_long")
             record.write(timestamp=start, heart_rate=120, position_lat=47.3, position_long=8.57)
 
-    Values are those that `messages` gives: numbers in the unit of the field, None for no value. A time may be a datetime; of a field in
-    semicircles an int is semicircles and a float degrees. A value between two steps of the field becomes the nearest; what doesn't fit is a
-    `WrongValue`. Where an exception leaves the `with`, nothing is written. `names` has names, units, scales and base types beside the
-    profile's. A writer is used by one thread at a time.
+    Values are those that `messages` gives: numbers in the unit of the field, None for no value. A time may be a
+    datetime; of a field in semicircles an int is semicircles and a float degrees. A value between two steps of the
+    field becomes the nearest; what doesn't fit is a `WrongValue`. Where an exception leaves the `with`, nothing is
+    written. `names` has names, units, scales and base types beside the profile's. A writer is used by one thread at a
+    time.
     """
 
     def __init__(self, sink: Sink, names: Told = None) -> None:
-        _see_library()
         see_sink(sink)
         self._sink, self._names = sink, names_of(names)
         # the blocks of the current file, and the bytes of those before it
-        self._chunks: Optional[List[Union[bytes, bytearray]]] = []
-        self._files: List[bytes] = []
+        self._chunks: Optional[list[Union[bytes, bytearray]]] = []
+        self._files: list[bytes] = []
         self._layouts = Layouts(self._names)
         # whether a file is begun, and whether no call was interrupted
         self._is_open, self._is_whole = False, True
@@ -80,22 +75,31 @@ class Writer:
 
     def _forget(self) -> None:
         """What a file begins with: no definitions, and no developer fields."""
-        # what each local message type is of: the definition of what was copied, or the block of a definition that was made here
-        self._slots: List[Optional[object]] = [None] * _LOCALS
+        # what each local message type is of: the definition of what was copied, or the block of a definition that was
+        # made here
+        self._slots: list[Optional[object]] = [None] * _LOCALS
         self._turns, self._turn = [0] * _LOCALS, 0
         # the last definition message of each local message type that was copied
-        self._copied: Dict[int, bytes] = {}
-        self._developers: Dict[Any, DeveloperField] = {}
-        self._indices: Set[Optional[int]] = set()
-        self._kinds: Dict[Any, Definition] = {}
+        self._copied: dict[int, bytes] = {}
+        self._developers: dict[Any, DeveloperField] = {}
+        self._indices: set[Optional[int]] = set()
+        self._kinds: dict[Any, Definition] = {}
         # the time that was written last, as a message's block has it
         self._time: Optional[bytes] = None
 
     # ---- what is written
 
-    def file(self, protocol: int = 0x20, profile: int = _PROFILE, size: int = 14, checksum: str = "there", more: bytes = b"") -> None:
-        """Begins a file, which ends the one before it: the next of a chain. The first begins by itself, as this without arguments. The header
-        has that size, of which `more` is what comes after place 14; its checksum is 'there', 'zeros' or 'none', as only one of 12 bytes can."""
+    def file(
+        self,
+        protocol: int = 0x20,
+        profile: int = _PROFILE,
+        size: int = 14,
+        checksum: str = "there",
+        more: bytes = b"",
+    ) -> None:
+        """Begins a file, which ends the one before it: the next of a chain. The first begins by itself, as this without
+        arguments. The header has that size, of which `more` is what comes after place 14; its checksum is 'there',
+        'zeros' or 'none', as only one of 12 bytes can."""
         if checksum not in KINDS:
             raise ValueError(f"a checksum is one of {', '.join(KINDS)}, and not {checksum!r}")
         numbers = ("a protocol", protocol, 0x2F), ("a profile", profile, 0xFFFF), ("a size", size, 0xFF)
@@ -115,10 +119,11 @@ class Writer:
         reserved: int = 0,
         says_developers: Optional[bool] = None,
     ) -> Definition:
-        """Returns what messages of a name or number are written with, which have these fields: names in one text, or a list of names, numbers,
-        developer fields, and `(name, base type)` or `(name, base type, count)`, where the field isn't as usual. A field has as many items, a
-        text as many bytes, as what is written needs, unless `count` says it. Its definition message has the local message type `local`, or one
-        that is free, and is written before the first message."""
+        """Returns what messages of a name or number are written with, which have these fields: names in one text, or a
+        list of names, numbers, developer fields, and `(name, base type)` or `(name, base type, count)`, where the field
+        isn't as usual. A field has as many items, a text as many bytes, as what is written needs, unless `count` says
+        it. Its definition message has the local message type `local`, or one that is free, and is written before the
+        first message."""
         number = message_number(message, self._names)
         shapes = Shapes(number, self._names, self._developers).all(fields)
         if local is not None and byte("a local message type", local) >= _LOCALS:
@@ -129,8 +134,8 @@ class Writer:
         return Definition(self, number, shapes, kept, local)
 
     def write(self, __message: Kind, __values: Optional[Mapping[Any, Any]] = None, **fields: Any) -> None:
-        """Writes a message of a name or number with these fields, and its definition message, where none is there for such fields. Fields that
-        are no words of Python are given by a mapping, as `{"Form power": 120, 3: 121}`."""
+        """Writes a message of a name or number with these fields, and its definition message, where none is there for
+        such fields. Fields that are no words of Python are given by a mapping, as `{"Form power": 120, 3: 121}`."""
         values = {**(__values or {}), **fields}
         names = [key for key in values if not isinstance(key, str) or key[:1] != "."]
         kind = __message, tuple(sorted(map(repr, names)))
@@ -145,32 +150,39 @@ class Writer:
         base: Union[str, int] = "uint16",
         index: int = 0,
         number: Optional[int] = None,
-        native: Optional[Tuple[Kind, int]] = None,
+        native: Optional[tuple[Kind, int]] = None,
         application: Optional[bytes] = None,
     ) -> DeveloperField:
-        """Describes a developer field, and returns it: it can be named in `define`, and is a key of values. It has the developer data index
-        `index`, and the next number that is free. `native` says that it stands for a field of a message, as `("record", 7)`. `application`
-        has the 16 bytes of the application that it is of; they are written with the first field of an index."""
+        """Describes a developer field, and returns it: it can be named in `define`, and is a key of values. It has the
+        developer data index `index`, and the next number that is free. `native` says that it stands for a field of a
+        message, as `("record", 7)`. `application` has the 16 bytes of the application that it is of; they are written
+        with the first field of an index."""
         known = [of.number for of in self._developers.values() if of.developer == index]
         field = max(known, default=-1) + 1 if number is None else number
-        told: Dict[Any, Any] = {"developer_data_index": index, "field_definition_number": field, "fit_base_type_id": base_named(base).code}
+        told: dict[Any, Any] = {
+            "developer_data_index": index,
+            "field_definition_number": field,
+            "fit_base_type_id": base_named(base).code,
+        }
         told.update({"field_name": name, "units": unit or None})
-        fields: List[Spec] = list(told)
+        fields: list[Spec] = list(told)
         if native is not None:
             told.update({14: message_number(native[0], self._names), 15: native[1]})
             fields += [(14, "uint16"), (15, "uint8")]
         definition = self.define(DESCRIPTION, fields)
         definition.see(told)
         if index not in self._indices:
-            self.write(DEVELOPER_DATA, {"developer_data_index": index, **({"application_id": application} if application else {})})
+            own = {"application_id": application} if application else {}
+            self.write(DEVELOPER_DATA, {"developer_data_index": index, **own})
             self._indices.add(index)
         definition.write(told)
         return self._developers[index, field]
 
     def copy(self, event: Everything) -> None:
-        """Writes what `messages` gives: a message, as it is or with other values (`replace`), and, with `everything`, headers, definition
-        messages and ends. What isn't changed keeps its bytes. A message whose definition message wasn't copied brings one along, and one whose
-        time is in its header gets a timestamp where messages before it are left out, from which that time counts."""
+        """Writes what `messages` gives: a message, as it is or with other values (`replace`), and, with `everything`,
+        headers, definition messages and ends. What isn't changed keeps its bytes. A message whose definition message
+        wasn't copied brings one along, and one whose time is in its header gets a timestamp where messages before it
+        are left out, from which that time counts."""
         if isinstance(event, Message):
             block, definition = event._block, event._definition
             local = block[AT_MESSAGE_LOCAL]
@@ -220,7 +232,7 @@ class Writer:
 
     # ---- blocks
 
-    def _usable(self) -> List[Union[bytes, bytearray]]:
+    def _usable(self) -> list[Union[bytes, bytearray]]:
         if self._chunks is None:
             raise ValueError("the writer is finished")
         if not self._is_whole:
@@ -260,7 +272,8 @@ class Writer:
         self._is_whole = True
 
     def _place(self, definition: Known, local: int) -> None:
-        """Makes a local message type one of a definition that was read, by the last one that was copied, where that says the same."""
+        """Makes a local message type one of a definition that was read, by the last one that was copied, where that
+        says the same."""
         copied, held = self._copied.get(local), self._slots[local]
         said = definition.data[AT_DEFINITION_MESSAGE:]
         if isinstance(held, Known) and held.data[AT_DEFINITION_MESSAGE:] == said:
@@ -277,7 +290,8 @@ class Writer:
                 known = self._developers.get(field.key)
                 base = field._replace(base=known.base if known else BYTE.code).shape
                 if base.width != field.shape.width:
-                    raise ValueError(f"the developer field {field.key} isn't described in this file as where it comes from: copy its description first")
+                    what = f"the developer field {field.key} isn't described in this file as where it comes from"
+                    raise ValueError(f"{what}: copy its description first")
 
     def _learn(self, definition: Known, block: Union[bytes, bytearray]) -> None:
         """Takes in what a description, or the message of an application, says."""
@@ -289,4 +303,5 @@ class Writer:
             if index is not None and number is not None and base is not None:
                 told = Message(data, definition)
                 name, unit = (str(told.get(key) or "") for key in (3, 8))
-                self._developers[index, number] = self._developers[name] = DeveloperField(index, number, name, unit, base)
+                of = DeveloperField(index, number, name, unit, base)
+                self._developers[index, number] = self._developers[name] = of

@@ -1,14 +1,24 @@
-"""Walks the blocks of events that the library makes (docs/BLOCKS.md): which messages there are, and of which definitions."""
+"""Walks the blocks of events that the library makes (docs/BLOCKS.md): which messages there are, and of which
+definitions."""
 import struct
-from typing import Any, Callable, Dict, Iterable, Iterator, Optional, Tuple, Union
+from collections.abc import Callable, Iterable, Iterator
+from typing import Any, Optional, Union
 
-from ._names import Names
-from ._natives import DESCRIPTION, Natives
-from ._numbers import AT_DEFINITION_MESSAGE, AT_HEADER_REST, AT_KIND, AT_MESSAGE_LOCAL, DEFINITION, FILE_HEADER, MESSAGE
-from ._profile import Kind as Kind
-from ._profile import number_of, see_messages
-from ._values import Definition, told
-from .errors import StreamBroken
+from .._names import Names
+from .._numbers import (
+    AT_DEFINITION_MESSAGE,
+    AT_HEADER_REST,
+    AT_KIND,
+    AT_MESSAGE_LOCAL,
+    DEFINITION,
+    FILE_HEADER,
+    MESSAGE,
+)
+from .._profile import number_of, see_messages
+from .._profile import Kind as Kind
+from ..errors import StreamBroken
+from .native_fields import DESCRIPTION, Natives
+from .values import Definition, told
 
 Only = Union[None, str, int, Iterable[Kind]]
 
@@ -19,13 +29,15 @@ _NUMBER = struct.Struct("<H").unpack_from
 _NOTHING = None, None
 
 
-# Messages of one definition that follow one another: where the first block begins, how many there are, and how long each is.
-Run = Tuple[Definition, int, int, int]
+# Messages of one definition that follow one another: where the first block begins, how many there are, and how long
+# each is.
+Run = tuple[Definition, int, int, int]
 
 
 def _count(blocks: bytes, first: int, length: int, local: int) -> int:
-    """How many messages of one local message type stand one after another from a place on. No definition is between them, so all are
-    of the same one, and each begins where the one before ends. It looks at one more, at two more, at four more and so on."""
+    """How many messages of one local message type stand one after another from a place on. No definition is between
+    them, so all are of the same one, and each begins where the one before ends. It looks at one more, at two more, at
+    four more and so on."""
     count = piece = 1
     kind, local_type = bytes([MESSAGE]), bytes([local])
     while True:
@@ -58,15 +70,16 @@ class Walk:
     def __init__(self, only: Only = None, names: Optional[Names] = None) -> None:
         self._wants, self._names, self._natives = _wants(only, names), names, Natives()
         # the last definition of each local message type, where it is asked for, and which it is of all
-        self._current: Dict[int, Tuple[Optional[Definition], int]] = {}
+        self._current: dict[int, tuple[Optional[Definition], int]] = {}
         # the last definition of each local message type, where it is of field descriptions
-        self._describing: Dict[int, Definition] = {}
+        self._describing: dict[int, Definition] = {}
         # what some definitions say, so that one which comes again isn't looked into again
-        self._known: Dict[Any, Optional[Definition]] = {}
+        self._known: dict[Any, Optional[Definition]] = {}
         self._room = _MOST
 
     def runs(self, blocks: bytes) -> Iterator[Run]:
-        """Yields the messages that are asked for, those that follow one another together. All have to be taken before the next part."""
+        """Yields the messages that are asked for, those that follow one another together. All have to be taken before
+        the next part."""
         at, end = 0, len(blocks)
         while at + _LEAST <= end:
             length, kind, first, second, which = _FRONT(blocks, at)
@@ -102,7 +115,8 @@ class Walk:
         if not self._wants(number):
             return None
         natives = self._natives.of(data)
-        # What comes before the number of the message says nothing of messages but their length, which is that of their fields.
+        # What comes before the number of the message says nothing of messages but their length, which is that of their
+        # fields.
         same = data[AT_DEFINITION_MESSAGE:], tuple(natives.items())
         if same not in self._known:
             self._room -= len(data)

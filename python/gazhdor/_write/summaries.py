@@ -1,9 +1,9 @@
 """What the records of a ride say as a whole: its lap, its session, its activity."""
-from typing import Any, Dict, List, Optional, Tuple
+from typing import Any, Optional
 
-from ._messages import Message
-from ._writer import Writer
-from .errors import WrongValue
+from .._read.messages import Message
+from ..errors import WrongValue
+from .writer import Writer
 
 LAP, SESSION, RECORD, EVENT, SPORT, ACTIVITY = 19, 18, 20, 21, 12, 34
 MADE_ANEW = (LAP, SESSION, ACTIVITY)
@@ -18,7 +18,7 @@ class _Timer:
     """How many seconds the timer ran, by its events; all the time where there are none."""
 
     def __init__(self) -> None:
-        self._events: List[Tuple[int, int]] = []
+        self._events: list[tuple[int, int]] = []
 
     def take(self, message: Message) -> None:
         if message.get(0) == _TIMER and message.seconds is not None and message.get(1) in (_START, *_STOPS):
@@ -43,10 +43,10 @@ class Summary:
         self._timer = _Timer()
         self._start: Optional[int] = None
         self._end = 0
-        self._places: List[Tuple[int, int]] = []
-        self._distances: List[float] = []
-        self._top: Dict[str, float] = {}
-        self._sums: Dict[str, Tuple[float, int]] = {}
+        self._places: list[tuple[int, int]] = []
+        self._distances: list[float] = []
+        self._top: dict[str, float] = {}
+        self._sums: dict[str, tuple[float, int]] = {}
 
     def take(self, message: Message) -> None:
         if message.number == EVENT:
@@ -70,7 +70,7 @@ class Summary:
                 self._sums[name] = total + value, count + 1
 
     @property
-    def span(self) -> Optional[Tuple[int, int]]:
+    def span(self) -> Optional[tuple[int, int]]:
         """The times of the first and the last record; None where no record has one."""
         return None if self._start is None else (self._start, self._end)
 
@@ -78,11 +78,16 @@ class Summary:
     def last_distance(self) -> float:
         return self._distances[-1] if self._distances else 0.0
 
-    def told(self) -> Dict[str, Any]:
+    def told(self) -> dict[str, Any]:
         """The fields that a lap and a session have alike."""
         start, end = self.span or (0, 0)
         ran = self._timer.ran(start, end)
-        found: Dict[str, Any] = {"timestamp": end, "start_time": start, "total_elapsed_time": float(end - start), "total_timer_time": float(ran)}
+        found: dict[str, Any] = {
+            "timestamp": end,
+            "start_time": start,
+            "total_elapsed_time": float(end - start),
+            "total_timer_time": float(ran),
+        }
         if self._places:
             found["start_position_lat"], found["start_position_long"] = self._places[0]
         if self._distances:
@@ -93,7 +98,7 @@ class Summary:
             found["avg_speed"] = found["total_distance"] / ran
         return {name: value for name, value in found.items() if not name.endswith("_speed") or value < 65.535}
 
-    def lap(self) -> Dict[str, Any]:
+    def lap(self) -> dict[str, Any]:
         found = self.told()
         if self._places:
             found["end_position_lat"], found["end_position_long"] = self._places[-1]
@@ -106,12 +111,13 @@ def _number(message: Message, name: str, other: Optional[float] = None) -> Optio
 
 
 class Anew:
-    """Leaves out the laps, the sessions and the activity of rides, and writes such of what their records say at the end: a lap for each
-    ride, a session of all."""
+    """Leaves out the laps, the sessions and the activity of rides, and writes such of what their records say at the
+    end: a lap for each ride, a session of all."""
 
     def __init__(self) -> None:
-        self._whole, self._laps = Summary(), []  # type: Summary, List[Summary]
-        self._sport: Dict[str, Any] = {}
+        self._whole = Summary()
+        self._laps: list[Summary] = []
+        self._sport: dict[str, Any] = {}
         self._zone: Optional[int] = None
 
     def begin_lap(self) -> None:
@@ -152,11 +158,16 @@ class Anew:
         told = self._whole.told()
         _write(out, "session", {"message_index": 0, **told, **self._sport, **counts})
         local = {} if self._zone is None else {"local_timestamp": told["timestamp"] + self._zone}
-        activity = {"timestamp": told["timestamp"], "total_timer_time": told["total_timer_time"], "num_sessions": 1, "type": 0}
+        activity = {
+            "timestamp": told["timestamp"],
+            "total_timer_time": told["total_timer_time"],
+            "num_sessions": 1,
+            "type": 0,
+        }
         _write(out, "activity", {**activity, "event": _OF_ACTIVITY, "event_type": _STOP, **local})
 
 
-def _write(out: Writer, message: str, values: Dict[str, Any]) -> None:
+def _write(out: Writer, message: str, values: dict[str, Any]) -> None:
     """Writes a message, and nothing of what its fields can't have, as the mean of values that no ride has."""
     while True:
         try:

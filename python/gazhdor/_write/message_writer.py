@@ -1,19 +1,20 @@
 """Messages of one kind that are written."""
-from typing import TYPE_CHECKING, Any, Dict, List, Mapping, Optional, Tuple
+from collections.abc import Mapping
+from typing import TYPE_CHECKING, Any, Optional
 
-from ._items import Packer, packers
-from ._layout import Kept, definition_block, empty_message
-from ._natives import OF_DEVELOPERS
-from ._numbers import AT_MESSAGE_LOCAL, AT_MESSAGE_OFFSET, NO_OFFSET
-from ._profile import UnknownName
-from ._put import is_of_numbers, listed, put_column
-from ._shapes import DeveloperField, Shape
-from ._times import NO_TIME_BYTES
-from ._values import Definition as Known
-from .errors import WrongValue
+from .._numbers import AT_MESSAGE_LOCAL, AT_MESSAGE_OFFSET, NO_OFFSET
+from .._profile import UnknownName
+from .._read.native_fields import OF_DEVELOPERS
+from .._read.values import Definition as Known
+from .._times import NO_TIME_BYTES
+from ..errors import WrongValue
+from .definitions import Kept, definition_block, empty_message
+from .field_shapes import DeveloperField, Shape
+from .item_columns import is_of_numbers, listed, put_column
+from .items import Packer, packers
 
 if TYPE_CHECKING:
-    from ._writer import Writer
+    from .writer import Writer
 
 _OFFSET = ".time_offset"
 _LONE = (int, float, type(None))
@@ -21,16 +22,17 @@ _MOST = 64  # So many layouts are kept, of fields that have now more items and n
 
 
 class Definition:
-    """What messages with the same fields are written with: `Writer.define` makes it. It goes with the file in which it was made."""
+    """What messages with the same fields are written with: `Writer.define` makes it. It goes with the file in which it
+    was made."""
 
-    def __init__(self, writer: "Writer", number: int, shapes: List[Shape], kept: Kept, local: Optional[int]) -> None:
+    def __init__(self, writer: "Writer", number: int, shapes: list[Shape], kept: Kept, local: Optional[int]) -> None:
         self._writer, self._number, self._shapes, self._kept = writer, number, shapes, kept
         self._wanted, self._local = local, kept.local
         # of each size of the fields the block, and what it says
-        self._layouts: Dict[Tuple[int, ...], Tuple[bytes, Known]] = {}
+        self._layouts: dict[tuple[int, ...], tuple[bytes, Known]] = {}
         self._lay([shape.least for shape in shapes])
 
-    def _lay(self, sizes: List[int]) -> None:
+    def _lay(self, sizes: list[int]) -> None:
         """Makes the fields of such sizes."""
         self._sizes = sizes
         found = self._layouts.get(tuple(sizes))
@@ -83,8 +85,9 @@ class Definition:
         return block
 
     def write(self, __values: Optional[Mapping[Any, Any]] = None, **fields: Any) -> None:
-        """Writes a message with these values; a field that isn't named has none. Fields that are no words of Python are given by a mapping, as
-        `{dev: 120, 3: 121}`, and there ".time_offset" is that of a compressed timestamp header."""
+        """Writes a message with these values; a field that isn't named has none. Fields that are no words of Python are
+        given by a mapping, as `{dev: 120, 3: 121}`, and there ".time_offset" is that of a compressed timestamp
+        header."""
         block = self.see({**__values, **fields} if __values else fields)
         if block[AT_MESSAGE_OFFSET] != NO_OFFSET and (self._wanted is None or self._wanted > 3):
             raise ValueError("a compressed timestamp header needs a local message type of 0 to 3: define(.., local=0)")
@@ -98,8 +101,9 @@ class Definition:
         self._writer._emit(self._block, self._local, self._block)
 
     def columns(self, __columns: Optional[Mapping[Any, Any]] = None, **fields: Any) -> None:
-        """Writes a message for each row of columns of one length: lists, arrays of numpy, series of pandas, or whatever gives values one after
-        another. None, NaN and NaT stand for no value, as does a field that isn't named. Where one of them doesn't fit, none is written."""
+        """Writes a message for each row of columns of one length: lists, arrays of numpy, series of pandas, or whatever
+        gives values one after another. None, NaN and NaT stand for no value, as does a field that isn't named. Where
+        one of them doesn't fit, none is written."""
         columns = listed({**({} if __columns is None else __columns), **fields})
         rows = max(map(len, columns.values()), default=0)
         for key, column in columns.items():
@@ -142,7 +146,8 @@ class Definition:
             writer._time = writer._time if time == NO_TIME_BYTES else bytes(time)
 
     def _place(self) -> int:
-        """The local message type that it gets: that which it was given, one that is free, or that which was used least lately."""
+        """The local message type that it gets: that which it was given, one that is free, or that which was used least
+        lately."""
         writer = self._writer
         if self._wanted is not None:
             return self._wanted

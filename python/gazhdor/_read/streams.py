@@ -4,22 +4,20 @@ import itertools
 import os
 import threading
 import weakref
-from typing import TYPE_CHECKING, Any, Callable, Generic, Iterator, List, Optional, TypeVar, Union, overload
+from collections.abc import Callable, Iterator
+from typing import TYPE_CHECKING, Any, Generic, Literal, Optional, TypeVar, Union, overload
 
-from ._answers import Answer
-from ._blocks import Only, Walk
-from ._events import Events, Everything
-from ._library import HAS_STREAMS, Opened, check, exact, library, text_of
-from ._messages import Message, messages_of
-from ._names import Told, names_of
-from ._numbers import STREAM_CHECK, STREAM_MESSAGES, STREAM_SHOW, STREAM_TABLE, STREAM_TO_CSV
-from ._sources import Source, bytes_of, go_back, opened, pieces, place_of
-from .errors import FitError, StreamBroken, judge, judged
+from .._answers import Answer
+from .._library import Opened, check, exact
+from .._names import Told, names_of
+from .._numbers import STREAM_CHECK, STREAM_MESSAGES, STREAM_SHOW, STREAM_TABLE, STREAM_TO_CSV
+from .._sources import Source, bytes_of, go_back, opened, pieces, place_of
+from ..errors import FitError, StreamBroken, judge, judged
+from .blocks import Only, Walk
+from .events import Events, Everything
+from .messages import Message, messages_of
 
-if TYPE_CHECKING:
-    from typing_extensions import Literal
-
-Made = TypeVar("Made", str, bytes, List[Message])
+Made = TypeVar("Made", str, bytes, list[Message])
 
 _KINDS = {
     "check": STREAM_CHECK,
@@ -29,22 +27,23 @@ _KINDS = {
     "blocks": STREAM_MESSAGES,
     "messages": STREAM_MESSAGES,
 }
-_WHOLE = {"show": library.gazhdor_show, "table": library.gazhdor_table, "to_csv": library.gazhdor_to_csv, "blocks": library.gazhdor_messages}
 
 
 class Stream(Generic[Made]):
     """FIT files that come in pieces. It keeps what the next piece needs, and no more for more bytes.
 
-    kind   what is made of them: "show", "table" and "to_csv" the text of the functions `show`, `table_text` and `to_csv`, piece by piece;
-           "messages" lists of `Message`, with `only` and `names` as for `messages`; "blocks" the bytes of docs/BLOCKS.md; "check" nothing, an empty str
+    kind   what is made of them: "show", "table" and "to_csv" the text of the functions `show`, `table_text` and
+           `to_csv`, piece by piece; "messages" lists of `Message`, with `only` and `names` as for `messages`; "blocks"
+           the bytes of docs/BLOCKS.md; "check" nothing, an empty str
     files  how many files have ended so far
 
-    All that `feed` and `finish` return, one after another, is what the function makes of all bytes. Where bytes are refused or end too soon,
-    they raise what it raises, `Refused` or `Truncated`; its `before` is what was made before that, and each later call raises the same. After
-    `finish` and `close` a call raises ValueError. Where threads share a stream, one call waits for another; a call within another call of the
-    same thread, as in a signal handler, is a RuntimeError. Where any other exception leaves a call, as KeyboardInterrupt does, the piece wasn't
-    taken, or each later call raises `StreamBroken`. In a process that was forked a stream goes on from where it was, unless another thread
-    was using it: then it is broken there.
+    All that `feed` and `finish` return, one after another, is what the function makes of all bytes. Where bytes are
+    refused or end too soon, they raise what it raises, `Refused` or `Truncated`; its `before` is what was made before
+    that, and each later call raises the same. After `finish` and `close` a call raises ValueError. Where threads share
+    a stream, one call waits for another; a call within another call of the same thread, as in a signal handler, is a
+    RuntimeError. Where any other exception leaves a call, as KeyboardInterrupt does, the piece wasn't taken, or each
+    later call raises `StreamBroken`. In a process that was forked a stream goes on from where it was, unless another
+    thread was using it: then it is broken there.
     """
 
     if TYPE_CHECKING:
@@ -54,7 +53,9 @@ class Stream(Generic[Made]):
         @overload
         def __init__(self: "Stream[bytes]", kind: Literal["blocks"]) -> None: ...
         @overload
-        def __init__(self: "Stream[List[Message]]", kind: Literal["messages"], only: Only = None, names: Told = None) -> None: ...
+        def __init__(
+            self: "Stream[list[Message]]", kind: Literal["messages"], only: Only = None, names: Told = None
+        ) -> None: ...
 
     def __init__(self, kind: str, only: Only = None, names: Told = None) -> None:
         if kind not in _KINDS:
@@ -73,7 +74,8 @@ class Stream(Generic[Made]):
         _streams.add(self)
 
     def _judge(self, opened: Opened, data: bytes) -> Any:
-        """What was made of the bytes of a call, where its answer is good; else the fault is kept, and the stream closed."""
+        """What was made of the bytes of a call, where its answer is good; else the fault is kept, and the stream
+        closed."""
         if opened.answer.good:
             self.files = opened.answer.files
             return self._make(data)
@@ -179,14 +181,14 @@ def _maker(kind: str, only: Only, names: Told) -> Callable[[bytes], Any]:
 
 def found(source: Source) -> Answer:
     """What is found of a source. It is read up to the piece with the first byte that is refused."""
-    if isinstance(source, (bytes, bytearray, memoryview)) or not HAS_STREAMS:
+    if isinstance(source, (bytes, bytearray, memoryview)):
         return check(bytes_of(source))
     with opened(source) as file:
         return _found(file)
 
 
 def _found(file: Any) -> Answer:
-    checking = Opened(0)
+    checking = Opened(STREAM_CHECK)
     for piece in pieces(file):
         checking.feed(piece)
         if not checking.answer.good:
@@ -196,14 +198,8 @@ def _found(file: Any) -> Answer:
 
 
 def each(kind: str, source: Source, partial: bool, ahead: bool = True) -> Iterator[bytes]:
-    """What is made of a source, piece by piece. A fault is raised after what comes before it. Without `partial`, and unless it needn't be
-    known ahead, it is raised at once where the source can go back."""
-    if not HAS_STREAMS:
-        answer, made = text_of(_WHOLE[kind], bytes_of(source))
-        judged(answer, partial)
-        yield made
-        judge(answer)
-        return
+    """What is made of a source, piece by piece. A fault is raised after what comes before it. Without `partial`, and
+    unless it needn't be known ahead, it is raised at once where the source can go back."""
     with opened(source) as file:
         place = place_of(file) if ahead and not partial else None
         if place is not None:
@@ -218,9 +214,10 @@ def each(kind: str, source: Source, partial: bool, ahead: bool = True) -> Iterat
 
 
 def blocks(source: Source, partial: bool = False) -> bytes:
-    """Returns the blocks of all that the files have (docs/BLOCKS.md), of which `from_blocks` makes the same bytes again. With `partial` they
-    are those of what comes before a fault; else a fault is raised, as `Refused` or `Truncated`."""
-    made: List[bytes] = []
+    """Returns the blocks of all that the files have (docs/BLOCKS.md), of which `from_blocks` makes the same bytes
+    again. With `partial` they are those of what comes before a fault; else a fault is raised, as `Refused` or
+    `Truncated`."""
+    made: list[bytes] = []
     try:
         made.extend(each("blocks", source, partial, ahead=False))
     except FitError:
@@ -232,17 +229,24 @@ def blocks(source: Source, partial: bool = False) -> bytes:
 if TYPE_CHECKING:
 
     @overload
-    def messages(source: Source, only: Only = None, partial: bool = False, names: Told = None, everything: Literal[False] = False) -> Iterator[Message]: ...
+    def messages(
+        source: Source, only: Only = None, partial: bool = False, names: Told = None, everything: Literal[False] = False
+    ) -> Iterator[Message]: ...
     @overload
-    def messages(source: Source, only: None = None, partial: bool = False, names: Told = None, *, everything: Literal[True]) -> Iterator[Everything]: ...
+    def messages(
+        source: Source, only: None = None, partial: bool = False, names: Told = None, *, everything: Literal[True]
+    ) -> Iterator[Everything]: ...
 
 
-def messages(source: Source, only: Only = None, partial: bool = False, names: Told = None, everything: bool = False) -> Iterator[Any]:
-    """Yields a Message for each data message; with `only`, a name or a number or several of these, for such messages alone, and makes
-    nothing of the others. The source is read, piece by piece, as messages are asked for. With `partial` a fault is raised after the
-    messages before it, else before the first message, as `Refused` or `Truncated`; of a file object that can't go back to where it was,
-    as a pipe, also after those before it. `names` has names, units and scales beside the profile's: a dict, the path of a text, or `Names`.
-    With `everything` it yields in their places what else files have, too: a `FileHeader`, a `DefinitionMessage`, a `FileEnd`."""
+def messages(
+    source: Source, only: Only = None, partial: bool = False, names: Told = None, everything: bool = False
+) -> Iterator[Any]:
+    """Yields a Message for each data message; with `only`, a name or a number or several of these, for such messages
+    alone, and makes nothing of the others. The source is read, piece by piece, as messages are asked for. With
+    `partial` a fault is raised after the messages before it, else before the first message, as `Refused` or
+    `Truncated`; of a file object that can't go back to where it was, as a pipe, also after those before it. `names` has
+    names, units and scales beside the profile's: a dict, the path of a text, or `Names`. With `everything` it yields in
+    their places what else files have, too: a `FileHeader`, a `DefinitionMessage`, a `FileEnd`."""
     if everything:
         if only is not None:
             raise TypeError("everything is all messages, and not only some")
@@ -255,7 +259,7 @@ def messages(source: Source, only: Only = None, partial: bool = False, names: To
         yield from messages_of(blocks, walk.runs(blocks))
 
 
-def rows(source: Source, partial: bool) -> Iterator[List[str]]:
+def rows(source: Source, partial: bool) -> Iterator[list[str]]:
     """The rows of the table, without the first line."""
     lines = (line for text in each("table", source, partial) for line in text.decode().splitlines())
     next(lines, None)

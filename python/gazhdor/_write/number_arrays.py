@@ -1,9 +1,9 @@
 """The items of arrays of numpy, all at once."""
-from typing import Any, List, Optional
+from typing import Any, Optional
 
-from ._items import CLEAR, SURE, Packer
-from ._numbers import FLOAT
-from ._times import EPOCH, SYSTEM_TIMES
+from .._numbers import FLOAT
+from .._times import EPOCH, SYSTEM_TIMES
+from .items import CLEAR, SURE, Packer
 
 _UNIX = int(EPOCH.timestamp())
 _WORTH = 1 << 12
@@ -26,8 +26,9 @@ def numpy_for(rows: int) -> Any:
     return numpy
 
 
-def items_of_list(pack: Packer, column: List[Any]) -> Optional[memoryview]:
-    """The items of a list of many numbers and None; None where one of them has to be looked at for itself, or numpy isn't there."""
+def items_of_list(pack: Packer, column: list[Any]) -> Optional[memoryview]:
+    """The items of a list of many numbers and None; None where one of them has to be looked at for itself, or numpy
+    isn't there."""
     types = set(map(type, column)) - {type(None)}
     numpy = numpy_for(len(column)) if types in ({int}, {float}) else None
     if numpy is None:
@@ -111,7 +112,8 @@ def _steps(pack: Packer, values: Any, none: Any) -> Any:
 
 
 def _halves(pack: Packer, values: Any) -> Any:
-    """The steps of values that are nearly halves: by the exact product of a double and a scale below 2^26, and what was lost in the sum."""
+    """The steps of values that are nearly halves: by the exact product of a double and a scale below 2^26, and what was
+    lost in the sum."""
     import numpy
 
     scale, shift = float(pack.scale), float(pack.shift)

@@ -1,10 +1,11 @@
 """What the items of a field stand for, and the field as its definition has it: an entry of docs/BLOCKS.md."""
 import struct
+from collections.abc import Callable, Mapping
 from decimal import Decimal
-from typing import Any, Callable, Dict, List, Mapping, NamedTuple, Optional, Tuple, Union, overload
+from typing import Any, NamedTuple, Optional, Union, overload
 
-from ._names import RESERVED, Named, Names
-from ._numbers import (
+from .._names import RESERVED, Named, Names
+from .._numbers import (
     AT_DEFINITION_FIELDS,
     AT_DEFINITION_MESSAGE,
     AT_DEFINITION_NAME,
@@ -21,13 +22,13 @@ from ._numbers import (
     STRING,
     UNSIGNED,
 )
-from ._profile import fields_of
+from .._profile import fields_of
 
 Number = Union[int, float]
-Value = Union[int, float, str, bytes, None, Tuple[Optional[Number], ...]]
-Exact = Union[int, float, Decimal, str, bytes, None, Tuple[Union[int, float, Decimal, None], ...]]
-Raw = Union[int, bytes, Tuple[int, ...]]
-Key = Union[str, int, Tuple[int, int]]
+Value = Union[int, float, str, bytes, None, tuple[Optional[Number], ...]]
+Exact = Union[int, float, Decimal, str, bytes, None, tuple[Union[int, float, Decimal, None], ...]]
+Raw = Union[int, bytes, tuple[int, ...]]
+Key = Union[str, int, tuple[int, int]]
 Reader = Callable[[bytes], Value]
 
 _ENTRY = struct.Struct(ENTRY_FORMAT)
@@ -44,9 +45,10 @@ NOT_NAMED = Named()
 
 
 class Entry:
-    """What a definition says of a field: its name and unit, its number, and where and how its items stand in a message's block.
-    `base` is the code of its base type, `index` the developer data index of a developer field, else None; `native` the number of the field that it stands for, or None;
-    `type` is 'date_time' or 'local_date_time' of a number that is such a time. What `named` says goes before what the block says."""
+    """What a definition says of a field: its name and unit, its number, and where and how its items stand in a
+    message's block. `base` is the code of its base type, `index` the developer data index of a developer field, else
+    None; `native` the number of the field that it stands for, or None; `type` is 'date_time' or 'local_date_time' of a
+    number that is such a time. What `named` says goes before what the block says."""
 
     size: int
     number: int
@@ -61,7 +63,8 @@ class Entry:
     invalid: int
 
     __slots__ = (
-        "size", "name", "unit", "number", "index", "base", "kind", "width", "count", "decimals", "begins", "scale", "offset", "invalid", "read",
+        "size", "name", "unit", "number", "index", "base", "kind", "width", "count", "decimals", "begins", "scale",
+        "offset", "invalid", "read",
         "type", "native", "_told",
     )  # fmt: skip
 
@@ -102,6 +105,11 @@ class Entry:
         return self.kind <= FLOAT and self.count == 1
 
     @property
+    def is_place(self) -> bool:
+        """Whether it may be a latitude or a longitude: one whole number of 32 bits with a sign."""
+        return self.index is None and self.kind == SIGNED and self.width == 4 and self.count == 1
+
+    @property
     def is_scaled(self) -> bool:
         return self.scale != 1 or self.offset != 0
 
@@ -136,8 +144,8 @@ def degrees(semicircles: None) -> None: ...
 @overload
 def degrees(semicircles: Optional[int]) -> Optional[float]: ...
 def degrees(semicircles: Optional[int]) -> Optional[float]:
-    """Returns the degrees that the number of a field in semicircles stands for, such as `position_lat`: 2^31 are 180 degrees. None
-    stands for None."""
+    """Returns the degrees that the number of a field in semicircles stands for, such as `position_lat`: 2^31 are 180
+    degrees. None stands for None."""
     return None if semicircles is None else semicircles * 180 / 2**31
 
 
@@ -229,7 +237,7 @@ def read_raw(entry: Entry, block: bytes) -> Raw:
     """The items as the file has them, the bits of floats as a number."""
     if entry.kind >= STRING:
         return block[entry.begins : entry.begins + entry.count]
-    items: Tuple[int, ...] = struct.unpack_from(f"<{entry.count}{entry.item_code}", block, entry.begins)
+    items: tuple[int, ...] = struct.unpack_from(f"<{entry.count}{entry.item_code}", block, entry.begins)
     return items[0] if entry.count == 1 else items
 
 
@@ -255,7 +263,7 @@ def whole_number(begins: int, width: int, scale: int = 1) -> Entry:
     return Entry(_ENTRY.pack(*own) + bytes(16), 0)
 
 
-Developer = Tuple[int, int]
+Developer = tuple[int, int]
 # The fields of the profile that are times. Field 253 is one in every message.
 _DATE, _LOCAL = "date_time", "local_date_time"
 _TYPES = {0: {4: _DATE}, 18: {2: _DATE}, 19: {2: _DATE}, 34: {5: _LOCAL}}
@@ -263,8 +271,8 @@ _POSITIONS = (("position_lat", "position_long"), ("start_position_lat", "start_p
 
 
 class Beside(NamedTuple):
-    """What is known of a definition but from its block: what the message is called, what is said of its fields, by their numbers, and
-    the numbers of the fields that its developer fields stand for."""
+    """What is known of a definition but from its block: what the message is called, what is said of its fields, by
+    their numbers, and the numbers of the fields that its developer fields stand for."""
 
     name: Optional[str] = None
     fields: Mapping[int, Named] = {}
@@ -280,10 +288,10 @@ def told(names: Optional[Names], message: int, natives: Mapping[Developer, int])
     return Beside(name, fields, natives) if name or fields or natives else NOTHING
 
 
-def developers(data: bytes) -> List[Developer]:
+def developers(data: bytes) -> list[Developer]:
     """The developer fields of a definition, by its block."""
     fields, developer = struct.unpack_from("<HH", data, AT_DEFINITION_FIELDS)
-    found: List[Developer] = []
+    found: list[Developer] = []
     at = first_entry(data)
     for _ in range(fields + developer if developer else 0):
         if data[at + AT_ENTRY_DEVELOPER]:
@@ -301,7 +309,9 @@ def first_entry(data: bytes) -> int:
 class Definition:
     """What the messages of a definition have: the number and name of the message, and its fields, each by its keys."""
 
-    __slots__ = ("data", "number", "name", "is_counted", "entries", "by_key", "readers", "keys", "labels", "made", "_told")
+    __slots__ = (
+        "data", "number", "name", "is_counted", "entries", "by_key", "readers", "keys", "labels", "made", "_told",
+    )  # fmt: skip
 
     def __init__(self, data: bytes, told: Beside = NOTHING) -> None:
         self.data, self._told = data, told
@@ -310,26 +320,27 @@ class Definition:
         self.name, self.is_counted = told.name or text_at(data, AT_DEFINITION_NAME), bool(bits & IS_COUNTED)
         self.entries = self._entries(fields + developer)
         # Of several fields with one key the first counts.
-        self.by_key: Dict[Key, Entry] = {}
+        self.by_key: dict[Key, Entry] = {}
         for entry in self.entries:
             self.by_key.setdefault(entry.key, entry)
         for entry in self.entries:
             # A file may give a developer field a name that means something else. It has its numbers, then.
             if entry.name and (entry.index is None or not RESERVED.fullmatch(entry.name)):
                 self.by_key.setdefault(entry.name, entry)
-        self.readers: Dict[Any, Reader] = {key: entry.read for key, entry in self.by_key.items()}
+        self.readers: dict[Any, Reader] = {key: entry.read for key, entry in self.by_key.items()}
         self.keys = self._keys()
         self.labels = {label(key): entry for key, entry in self.keys.items()}
         # what is made of it when it is first needed
-        self.made: Dict[str, Any] = {}
+        self.made: dict[str, Any] = {}
 
-    def _entries(self, count: int) -> Tuple[Entry, ...]:
+    def _entries(self, count: int) -> tuple[Entry, ...]:
         data, (_, fields, natives) = self.data, self._told
         types = _TYPES.get(self.number, {})
         at = first_entry(data)
-        entries: List[Entry] = []
+        entries: list[Entry] = []
         for _ in range(count):
-            number, developer, index = data[at + AT_ENTRY_NUMBER], data[at + AT_ENTRY_DEVELOPER], data[at + AT_ENTRY_INDEX]
+            number, developer = data[at + AT_ENTRY_NUMBER], data[at + AT_ENTRY_DEVELOPER]
+            index = data[at + AT_ENTRY_INDEX]
             if developer:
                 entries.append(Entry(data, at, native=natives.get((index, number))))
             else:
@@ -338,25 +349,26 @@ class Definition:
             at += entries[-1].size
         return tuple(entries)
 
-    def _keys(self) -> Dict[Key, Entry]:
+    def _keys(self) -> dict[Key, Entry]:
         """Each field once, by its name where it has one of its own, and else by its number."""
-        found: Dict[Key, Entry] = {}
+        found: dict[Key, Entry] = {}
         for entry in self.entries:
             if self.by_key[entry.key] is entry:
                 found[entry.name if entry.name and self.by_key.get(entry.name) is entry else entry.key] = entry
         return found
 
     @property
-    def position(self) -> Optional[Tuple[Entry, Entry]]:
+    def position(self) -> Optional[tuple[Entry, Entry]]:
         """The latitude and the longitude of its messages, in semicircles; of a session or a lap those of its start."""
         for names in _POSITIONS:
             lat, long = map(self.by_key.get, names)
-            if lat and long and all(entry.index is None and entry.kind == SIGNED and entry.width == 4 and entry.count == 1 for entry in (lat, long)):
+            if lat and long and lat.is_place and long.is_place:
                 return lat, long
         return None
 
     def number_of(self, key: Key) -> Optional[int]:
-        """The number of a field of its messages that isn't a developer field, also where they don't have it; None where nothing names it."""
+        """The number of a field of its messages that isn't a developer field, also where they don't have it; None where
+        nothing names it."""
         if not isinstance(key, str):
             return key if isinstance(key, int) else None
         entry = self.by_key.get(key)
@@ -366,13 +378,16 @@ class Definition:
         return next(named, fields_of(self.number).get(key))
 
     @property
-    def names(self) -> List[str]:
+    def names(self) -> list[str]:
         """The caller's names of fields of its messages, also of those that they don't have."""
         return [named.name for named in self._told.fields.values() if named.name]
 
     def is_same(self, other: "Definition") -> bool:
         """Whether messages of both, where they have the same bytes, are the same."""
-        return self is other or (self.data[AT_DEFINITION_MESSAGE:] == other.data[AT_DEFINITION_MESSAGE:] and self._told == other._told)
+        if self is other:
+            return True
+        at = AT_DEFINITION_MESSAGE
+        return self.data[at:] == other.data[at:] and self._told == other._told
 
     def __reduce__(self) -> Any:
         return Definition, (self.data, self._told)

@@ -1,14 +1,15 @@
 """Columns of messages: lists, numpy arrays and pandas frames, made of many blocks at once."""
 import importlib
-from typing import Any, Callable, Dict, Iterable, List, NamedTuple, Optional, Set
+from collections.abc import Callable, Iterable
+from typing import Any, NamedTuple, Optional
 
-from ._names import Told, names_of
-from ._numbers import FLOAT
-from ._parts import DATE, DEGREES, LOCAL, VALUE, Asked, Cell, Part, Piece, Table, told
-from ._profile import Kind
-from ._sources import Source
-from ._times import EPOCH, SYSTEM_TIMES
-from ._values import Entry, Key, label
+from .._names import Told, names_of
+from .._numbers import FLOAT
+from .._profile import Kind
+from .._sources import Source
+from .._times import EPOCH, SYSTEM_TIMES
+from .column_parts import DATE, DEGREES, LOCAL, VALUE, Asked, Cell, Part, Piece, Table, told
+from .values import Entry, Key, label
 
 _UNIX = int(EPOCH.timestamp())
 
@@ -18,7 +19,8 @@ def _needed(name: str) -> Any:
     try:
         return importlib.import_module(name)
     except ModuleNotFoundError as error:
-        raise ModuleNotFoundError(f"this call of gazhdor needs {name}, which isn't installed: pip install {name}", name=error.name) from None
+        what = f"this call of gazhdor needs {name}, which isn't installed: pip install {name}"
+        raise ModuleNotFoundError(what, name=error.name) from None
 
 
 def _asked(message: Kind, fields: Optional[Iterable[Key]], times: bool, names: Told) -> Asked:
@@ -30,9 +32,9 @@ def _asked(message: Kind, fields: Optional[Iterable[Key]], times: bool, names: T
 # ---- lists
 
 
-def _list(table: Table, pieces: List[Piece]) -> List[Any]:
+def _list(table: Table, pieces: list[Piece]) -> list[Any]:
     if len(pieces) == 1 and pieces[0][0].messages == table.rows:
-        values: List[Any] = pieces[0][2]
+        values: list[Any] = pieces[0][2]
         return values[:]
     column = table.rows * [None]
     for part, _, values in pieces:
@@ -41,20 +43,28 @@ def _list(table: Table, pieces: List[Piece]) -> List[Any]:
 
 
 def lists(
-    source: Source, message: Kind, fields: Optional[Iterable[Key]] = None, partial: bool = False, *, times: bool = False, names: Told = None
-) -> Dict[Key, List[Any]]:
-    """Returns a list for each of the fields, with the value in each message of one name or number, in their order: the values are
-    those of `Message`, and None where a message has no such field. So `zip(*lists.values())` are rows.
+    source: Source,
+    message: Kind,
+    fields: Optional[Iterable[Key]] = None,
+    partial: bool = False,
+    *,
+    times: bool = False,
+    names: Told = None,
+) -> dict[Key, list[Any]]:
+    """Returns a list for each of the fields, with the value in each message of one name or number, in their order: the
+    values are those of `Message`, and None where a message has no such field. So `zip(*lists.values())` are rows.
 
-    A field is named as in a `Message`. "timestamp" is the time of the message, also where that is from a compressed timestamp header,
-    and 253 the field itself. With a dot before it an attribute of `Message` is named: ".time", ".seconds", ".file", ".place", ".local",
-    ".speed", ".distance", ".total_cycles", ".accumulated_power"; ".latitude" and ".longitude" are its position in degrees. Without
-    `fields` it is each field that one of the messages has, by its name where it has one, and "timestamp" first, where one of them has a
-    time or that field. With `times` the fields that are times, as `start_time`, are told as `Message.times` has them. `names` are names of
-    the caller's own, as for `messages`.
+    A field is named as in a `Message`. "timestamp" is the time of the message, also where that is from a compressed
+    timestamp header, and 253 the field itself. With a dot before it an attribute of `Message` is named: ".time",
+    ".seconds", ".file", ".place", ".local", ".speed", ".distance", ".total_cycles", ".accumulated_power"; ".latitude"
+    and ".longitude" are its position in degrees. Without `fields` it is each field that one of the messages has, by its
+    name where it has one, and "timestamp" first, where one of them has a time or that field. With `times` the fields
+    that are times, as `start_time`, are told as `Message.times` has them. `names` are names of the caller's own, as for
+    `messages`.
 
-    With `partial` it is what comes before a fault; else a fault is raised, as `Refused` or `Truncated`. `UnknownName` is raised for a
-    name that neither the profile nor the file has, and `TooManyCells` without `fields` where nearly all of very many cells would be empty."""
+    With `partial` it is what comes before a fault; else a fault is raised, as `Refused` or `Truncated`. `UnknownName`
+    is raised for a name that neither the profile nor the file has, and `TooManyCells` without `fields` where nearly all
+    of very many cells would be empty."""
     table = Table(_asked(message, fields, times, names), Part.values)
     table.read(source, partial)
     return {key: _list(table, table.pieces(key)) for key in table.keys}
@@ -71,7 +81,8 @@ class _Array(NamedTuple):
 
 
 class _Arrays:
-    """Makes arrays: of a field of one number by its items, which are kept as they are in the file; of any other one by a list."""
+    """Makes arrays: of a field of one number by its items, which are kept as they are in the file; of any other one by
+    a list."""
 
     def __init__(self, numpy: Any, asked: Asked) -> None:
         self.numpy, self.table = numpy, Table(asked, self._take)
@@ -117,7 +128,8 @@ class _Arrays:
         return column
 
     def column(self, key: Key) -> _Array:
-        pieces, numpy, make = self.table.pieces(key), self.numpy, self._objects  # type: List[Piece], Any, Callable[..., Any]
+        pieces, numpy = self.table.pieces(key), self.numpy
+        make: Callable[..., Any] = self._objects
         forms = {cell.form for _, cell, _ in pieces}
         if all(cell.entry.is_number for _, cell, _ in pieces) and forms <= {VALUE, DEGREES}:
             make, empty, kind = self._numbers, numpy.nan, "f8"
@@ -133,16 +145,16 @@ class _Arrays:
                 column[part.where(numpy)] = make(cell, items)
         return _Array(column, kind == "M8[s]" and forms == {DATE})
 
-    def columns(self) -> Dict[Key, _Array]:
+    def columns(self) -> dict[Key, _Array]:
         return {key: self.column(key) for key in self.table.keys}
 
-    def labels(self) -> Dict[Key, str]:
-        """A label for each column. Developer fields whose names differ from another label by the case of letters alone have their numbers,
-        as some databases don't tell them apart."""
+    def labels(self) -> dict[Key, str]:
+        """A label for each column. Developer fields whose names differ from another label by the case of letters alone
+        have their numbers, as some databases don't tell them apart."""
         keys = self.table.keys
         developer = {key: self.table.developer(key) for key in keys}
         found = {key: label(key) for key in keys if developer[key] is None}
-        taken: Set[str] = {name.casefold() for name in found.values()}
+        taken: set[str] = {name.casefold() for name in found.values()}
         for key, numbers in developer.items():
             if numbers is not None:
                 name = label(key)
@@ -155,15 +167,23 @@ class _Arrays:
 
 
 def columns(
-    source: Source, message: Kind, fields: Optional[Iterable[Key]] = None, partial: bool = False, *, times: bool = False, names: Told = None
-) -> Dict[Key, Any]:
-    """Returns a numpy array for each of the fields, with the value in each message of one name or number, in their order.
+    source: Source,
+    message: Kind,
+    fields: Optional[Iterable[Key]] = None,
+    partial: bool = False,
+    *,
+    times: bool = False,
+    names: Told = None,
+) -> dict[Key, Any]:
+    """Returns a numpy array for each of the fields, with the value in each message of one name or number, in their
+    order.
 
-    Numbers are float64, in the unit of the field, and NaN where a message has no value; float64 has not all whole numbers over 2^53.
-    "timestamp" is the time of each message in UTC as datetime64[s], also that of a compressed timestamp header, and NaT where there is
-    none or where the device didn't know it; the number 253 is the field itself. A field that is a text, bytes or several numbers in one
-    of the messages gives an object array of what `Message` has, None where there is nothing. With `times` each field that is a time is
-    datetime64[s], as "timestamp" is. `fields`, `partial`, `times` and `names` are as for `lists`, and so are the errors. It raises
+    Numbers are float64, in the unit of the field, and NaN where a message has no value; float64 has not all whole
+    numbers over 2^53. "timestamp" is the time of each message in UTC as datetime64[s], also that of a compressed
+    timestamp header, and NaT where there is none or where the device didn't know it; the number 253 is the field
+    itself. A field that is a text, bytes or several numbers in one of the messages gives an object array of what
+    `Message` has, None where there is nothing. With `times` each field that is a time is datetime64[s], as "timestamp"
+    is. `fields`, `partial`, `times` and `names` are as for `lists`, and so are the errors. It raises
     ModuleNotFoundError where numpy isn't installed."""
     arrays = _Arrays(_needed("numpy"), _asked(message, fields, times, names))
     arrays.table.read(source, partial)
@@ -171,12 +191,18 @@ def columns(
 
 
 def frame(
-    source: Source, message: Kind, fields: Optional[Iterable[Key]] = None, partial: bool = False, *, times: bool = False, names: Told = None
+    source: Source,
+    message: Kind,
+    fields: Optional[Iterable[Key]] = None,
+    partial: bool = False,
+    *,
+    times: bool = False,
+    names: Told = None,
 ) -> Any:
-    """Returns the arrays of `columns` as a DataFrame of pandas, a row for each message. The labels are the names, where there is none
-    `field_N`, or `dev_I_N`, I being the developer data index; so is the label of a developer field whose name differs from another one by
-    the case of letters alone. Times are in UTC, those by the clock of the place without a zone. It raises ModuleNotFoundError where numpy or
-    pandas isn't installed."""
+    """Returns the arrays of `columns` as a DataFrame of pandas, a row for each message. The labels are the names, where
+    there is none `field_N`, or `dev_I_N`, I being the developer data index; so is the label of a developer field whose
+    name differs from another one by the case of letters alone. Times are in UTC, those by the clock of the place
+    without a zone. It raises ModuleNotFoundError where numpy or pandas isn't installed."""
     pandas = _needed("pandas")
     arrays = _Arrays(_needed("numpy"), _asked(message, fields, times, names))
     arrays.table.read(source, partial)

@@ -1,21 +1,22 @@
 """Mends what was broken off: all good records of it, and an end."""
 import functools
 import struct
-from typing import Iterable, Iterator, List, Optional, Tuple, Union
+from collections.abc import Iterable, Iterator
+from typing import Optional, Union
 
-from ._layout import END
-from ._numbers import AT_PLACE, FILE_END
-from ._sources import Source, bytes_of
-from ._streams import each, found
-from ._writer import from_blocks
-from .errors import FitError, judge
+from .._numbers import AT_PLACE, FILE_END
+from .._read.streams import each, found
+from .._sources import Source, bytes_of
+from ..errors import FitError, judge
+from .definitions import END
+from .writer import from_blocks
 
 _FRONT = struct.Struct("<IB").unpack_from
 _MOST = 2**32 - 1  # the size of the largest data section
 
 
 @functools.lru_cache(None)
-def _sums() -> List[int]:
+def _sums() -> list[int]:
     """What each two bytes make of a checksum of 0."""
     sums = list(range(65536))
     for _ in range(16):
@@ -44,7 +45,8 @@ def _after(total: int, byte: int) -> int:
 
 
 class _Parts:
-    """A file object of bytes that lie in memory. It gives a few first, and then ever more, as the first may be refused."""
+    """A file object of bytes that lie in memory. It gives a few first, and then ever more, as the first may be
+    refused."""
 
     def __init__(self, parts: Iterable[Union[bytes, memoryview]]) -> None:
         self._parts, self._size = [memoryview(part) for part in parts if len(part)], 256
@@ -87,9 +89,9 @@ def _header(old: bytes, size: int) -> bytes:
     return head + (checksum(head) + old[14:] if len(old) > 13 else b"")
 
 
-def _split(data: memoryview) -> Optional[Tuple[bytes, memoryview, memoryview]]:
-    """Header and data section of the file that these bytes begin, as far as they are there, and what comes after it. None where that can't
-    be told, as they begin no header."""
+def _split(data: memoryview) -> Optional[tuple[bytes, memoryview, memoryview]]:
+    """Header and data section of the file that these bytes begin, as far as they are there, and what comes after it.
+    None where that can't be told, as they begin no header."""
     length = data[0]
     if length < 12 or len(data) < length or data[8:12] != b".FIT":
         return None
@@ -106,7 +108,7 @@ def _split(data: memoryview) -> Optional[Tuple[bytes, memoryview, memoryview]]:
     return head, body, data[:0]
 
 
-def _mended(data: memoryview) -> Tuple[bytes, memoryview]:
+def _mended(data: memoryview) -> tuple[bytes, memoryview]:
     """The file that these bytes begin, with its good records, or nothing; and what comes after it."""
     parts = _split(data)
     if parts is None:
@@ -120,14 +122,15 @@ def _mended(data: memoryview) -> Tuple[bytes, memoryview]:
 
 
 def mend(source: Source) -> bytes:
-    """Returns a good file, or chain of files, of one that was broken off or is damaged: of each file its records up to the first that is
-    not whole or can't be, with the size and the checksums that belong to them. Good bytes stay as they are, and bytes after the last
-    file that begin none are left out. Where there is no good record it raises the fault, `Refused` or `Truncated`."""
+    """Returns a good file, or chain of files, of one that was broken off or is damaged: of each file its records up to
+    the first that is not whole or can't be, with the size and the checksums that belong to them. Good bytes stay as
+    they are, and bytes after the last file that begin none are left out. Where there is no good record it raises the
+    fault, `Refused` or `Truncated`."""
     data = bytes_of(source)
     answer = found(data)
     if answer.good:
         return data
-    made: List[Union[bytes, memoryview]] = []
+    made: list[Union[bytes, memoryview]] = []
     rest = memoryview(data)
     while len(rest):
         end = _end_of_files(rest)

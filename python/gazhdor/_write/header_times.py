@@ -1,9 +1,8 @@
 """Times that count from the message before, in compressed timestamp headers."""
-from typing import Optional, Tuple
+from typing import Optional
 
-from ._bases import base_named
-from ._layout import FieldDefinition, Kept, definition_block, empty_message, fields_of_block, form_of
-from ._numbers import (
+from .._base_types import base_named
+from .._numbers import (
     AT_DEFINITION_ARCHITECTURE,
     AT_DEFINITION_LOCAL,
     AT_DEFINITION_RESERVED,
@@ -14,8 +13,9 @@ from ._numbers import (
     NO_OFFSET,
     TOLD_TIME,
 )
-from ._times import HEADER_TIME, NO_TIME_BYTES, OWN_TIME
-from ._values import Definition
+from .._read.values import Definition
+from .._times import HEADER_TIME, NO_TIME_BYTES, OWN_TIME
+from .definitions import FieldDefinition, Kept, definition_block, empty_message, fields_of_block, form_of
 
 _TIMESTAMP = FieldDefinition(253, base_named("uint32").code, 4)
 
@@ -30,7 +30,7 @@ def is_out_of_time(block: bytes, before: Optional[bytes]) -> bool:
     return last + ((block[AT_MESSAGE_OFFSET] - last) & 31) != time
 
 
-def with_time(definition: Definition, block: bytes) -> Tuple[Definition, bytes]:
+def with_time(definition: Definition, block: bytes) -> tuple[Definition, bytes]:
     """The same message with a normal header and a timestamp, and its definition."""
     own = definition.by_key.get(253)
     if own is not None and own.type:

@@ -1,23 +1,24 @@
 """Changes of whole files: fields emptied, times moved, a part cut out, files joined."""
 import datetime
 import re
-from typing import Dict, Iterable, Iterator, List, NamedTuple, Optional, Set, Tuple
+from collections.abc import Iterable, Iterator
+from typing import NamedTuple, Optional
 
-from ._bases import base_named
-from ._events import Everything, FileEnd, FileHeader
-from ._items import Packer
-from ._messages import Message
-from ._names import EXTRA
-from ._numbers import AT_MESSAGE_BITS, AT_MESSAGE_OFFSET, NO_TIME, TOLD_HEADER_TIME, TOLD_TIME
-from ._profile import UnknownName, number_of, profile
-from ._sinks import Sink
-from ._sources import Source
-from ._streams import messages
-from ._summary import RECORD, Anew
-from ._times import EPOCH, HEADER_TIME, OWN_TIME, SYSTEM_TIMES
-from ._values import Definition, Entry
-from ._writer import Writer
-from .errors import WrongValue
+from .._base_types import base_named
+from .._names import EXTRA
+from .._numbers import AT_MESSAGE_BITS, AT_MESSAGE_OFFSET, NO_TIME, TOLD_HEADER_TIME, TOLD_TIME
+from .._profile import UnknownName, number_of, profile
+from .._read.events import Everything, FileEnd, FileHeader
+from .._read.messages import Message
+from .._read.streams import messages
+from .._read.values import Definition, Entry
+from .._sources import Source
+from .._times import EPOCH, HEADER_TIME, OWN_TIME, SYSTEM_TIMES
+from ..errors import WrongValue
+from .items import Packer
+from .sinks import Sink
+from .summaries import RECORD, Anew
+from .writer import Writer
 
 _POSITION = "position"
 _NAMED = re.compile(r"(^|[^a-z])(position|pos|location|gps|geo|lat|latitude|long|lon|lng|longitude)([^a-z]|$)", re.I)
@@ -28,10 +29,10 @@ _SINT32 = base_named("sint32").code
 
 
 class Change(NamedTuple):
-    """What is changed of a file: the fields that are emptied, the seconds by which times are moved, and the first and the last second that
-    stay."""
+    """What is changed of a file: the fields that are emptied, the seconds by which times are moved, and the first and
+    the last second that stay."""
 
-    drop: Tuple[str, ...] = ()
+    drop: tuple[str, ...] = ()
     shift: int = 0
     begin: Optional[int] = None
     end: Optional[int] = None
@@ -42,8 +43,9 @@ class Change(NamedTuple):
 
 
 def is_place(entry: Entry) -> bool:
-    """Whether a field may have a place: a whole number of 32 bits with a sign, whatever it is called, as latitudes and longitudes are kept,
-    also by the code that some devices write for it, without its highest bit; or one that is named or measured as a place."""
+    """Whether a field may have a place: a whole number of 32 bits with a sign, whatever it is called, as latitudes and
+    longitudes are kept, also by the code that some devices write for it, without its highest bit; or one that is named
+    or measured as a place."""
     is_signed = entry.base & 0x1F == _SINT32 & 0x1F
     return is_signed or bool(entry.name and _NAMED.search(entry.name)) or (entry.unit or "").lower() in _MEASURED
 
@@ -60,16 +62,17 @@ def _is_of(word: str, definition: Definition, entry: Entry) -> bool:
     return field == entry.name or field == str(entry.number) and entry.index is None
 
 
-def _known_names() -> Set[str]:
+def _known_names() -> set[str]:
     names = {name for known in profile().values() for name in known.fields}
-    return names.union(named.name for number in EXTRA.messages.values() for named in EXTRA.fields(number).values() if named.name)
+    told = (named for number in EXTRA.messages.values() for named in EXTRA.fields(number).values())
+    return names.union(named.name for named in told if named.name)
 
 
 class _Plan(NamedTuple):
     """What is emptied in the messages of a definition, by what it is called, and which of their fields are times."""
 
-    dropped: List[Tuple[str, Packer]]
-    times: List[Packer]
+    dropped: list[tuple[str, Packer]]
+    times: list[Packer]
 
 
 class _Editor:
@@ -77,14 +80,15 @@ class _Editor:
 
     def __init__(self, change: Change) -> None:
         self._change = change
-        self.counts: Dict[Tuple[str, str], int] = {}
-        self._met: Set[str] = set()
+        self.counts: dict[tuple[str, str], int] = {}
+        self._met: set[str] = set()
 
     def _plan(self, definition: Definition) -> "_Plan":
-        """What is changed in the messages of a definition. It is kept with the definition, of which there may be very many."""
+        """What is changed in the messages of a definition. It is kept with the definition, of which there may be very
+        many."""
         of, plan = definition.made.get("edit", (None, None))
         if of is not self:
-            dropped: List[Tuple[str, Packer]] = []
+            dropped: list[tuple[str, Packer]] = []
             for entry in definition.entries:
                 words = [word for word in self._change.drop if _is_of(word, definition, entry)]
                 self._met.update(words)
@@ -109,7 +113,7 @@ class _Editor:
             self._move(block, plan.times)
         return Message(bytes(block), definition)
 
-    def _move(self, block: bytearray, times: List[Packer]) -> None:
+    def _move(self, block: bytearray, times: list[Packer]) -> None:
         shift = self._change.shift
         for pack in times:
             block[pack.begins : pack.begins + 4] = _moved(block[pack.begins : pack.begins + 4], shift, pack.label)
@@ -136,14 +140,15 @@ def _moved(item: bytearray, shift: int, field: str) -> bytes:
     if time == NO_TIME or time < SYSTEM_TIMES:
         return bytes(item)
     if not SYSTEM_TIMES <= time + shift < NO_TIME:
-        raise WrongValue(f"{time} seconds, moved by {shift}, are no time any more", field, time + shift, SYSTEM_TIMES, NO_TIME - 1)
+        what = f"{time} seconds, moved by {shift}, are no time any more"
+        raise WrongValue(what, field, time + shift, SYSTEM_TIMES, NO_TIME - 1)
     return (time + shift).to_bytes(4, "little")
 
 
-def edit(source: Source, sink: Sink, change: Change) -> Dict[Tuple[str, str], int]:
-    """Writes a file, or a chain of files, with changes, and returns how many values were emptied of each field, by the names of message and
-    field. Times are cut before they are moved. Where a part is cut out, messages with another time are left out, and a lap, a session and
-    an activity are made anew by what the records say."""
+def edit(source: Source, sink: Sink, change: Change) -> dict[tuple[str, str], int]:
+    """Writes a file, or a chain of files, with changes, and returns how many values were emptied of each field, by the
+    names of message and field. Times are cut before they are moved. Where a part is cut out, messages with another time
+    are left out, and a lap, a session and an activity are made anew by what the records say."""
     editor, anew, is_empty = _Editor(change), Anew(), True
     with Writer(sink) as out:
         for event in messages(source, names=EXTRA, everything=True):
@@ -172,8 +177,8 @@ def _stays(message: Message, change: Change) -> bool:
 
 
 def join(sources: Iterable[Source], sink: Sink, one: bool = False) -> None:
-    """Writes several files as a chain, or, with `one`, as one activity: with the header, the file_id and the sport of the first, distances
-    that go on, a lap for each, and a session and an activity made anew by what the records say."""
+    """Writes several files as a chain, or, with `one`, as one activity: with the header, the file_id and the sport of
+    the first, distances that go on, a lap for each, and a session and an activity made anew by what the records say."""
     with Writer(sink) as out:
         if not one:
             for source in sources:
@@ -185,8 +190,11 @@ def join(sources: Iterable[Source], sink: Sink, one: bool = False) -> None:
             before = anew.end
             anew.begin_lap()
             for event in _of_one(messages(source, names=EXTRA, everything=True), number, anew):
-                if isinstance(event, Message) and event.number == RECORD and before is not None and event.seconds is not None and event.seconds < before:
-                    raise ValueError(f"file {number + 1} begins before the one before it ends: name them in the order of their times")
+                is_record = isinstance(event, Message) and event.number == RECORD
+                seconds = event.seconds if is_record else None
+                if before is not None and seconds is not None and seconds < before:
+                    what = f"file {number + 1} begins before the one before it ends"
+                    raise ValueError(f"{what}: name them in the order of their times")
                 out.copy(event)
         anew.write(out)
 

@@ -3,14 +3,9 @@ import errno
 import io
 import os
 import stat
-from typing import TYPE_CHECKING, Any, Union
+from typing import Any, Protocol, Union
 
-from .errors import NotBinary
-
-if TYPE_CHECKING:
-    from typing_extensions import Protocol
-else:
-    Protocol = object
+from ..errors import NotBinary
 
 
 class Writable(Protocol):

@@ -8,12 +8,12 @@ import operator
 import re
 import struct
 from fractions import Fraction
-from typing import Any, Dict, List, Optional, Tuple
+from typing import Any, Optional
 
-from ._numbers import BYTES, FLOAT, SIGNED, STRING
-from ._times import EPOCH, SYSTEM_TIMES, when
-from ._values import Definition, Entry, as_value, degrees, label
-from .errors import WrongValue
+from .._numbers import BYTES, FLOAT, SIGNED, STRING
+from .._read.values import Definition, Entry, as_value, degrees, label
+from .._times import EPOCH, SYSTEM_TIMES, when
+from ..errors import WrongValue
 
 _SYSTEM = re.compile(r"system\+(\d{1,9})", re.A).fullmatch
 _NAIVE = EPOCH.replace(tzinfo=None)
@@ -38,18 +38,24 @@ def rounded(top: int, bottom: int) -> int:
 
 
 class Packer:
-    """What makes the items of a field of a value. A value is what `messages` gives: a number in the unit of the field, or None. Of a field in
-    semicircles a float is degrees; a time may be a datetime, or the text 'system+N'."""
+    """What makes the items of a field of a value. A value is what `messages` gives: a number in the unit of the field,
+    or None. Of a field in semicircles a float is degrees; a time may be a datetime, or the text 'system+N'."""
 
-    __slots__ = ("entry", "begins", "size", "none", "_least", "_most", "_pack", "scale", "shift", "_is_plain", "_is_degrees", "_is_direct", "_by", "_from", "_ratio")
+    __slots__ = (
+        "entry", "begins", "size", "none", "_least", "_most", "_pack", "scale", "shift", "_is_plain", "_is_degrees",
+        "_is_direct", "_by", "_from", "_ratio",
+    )  # fmt: skip
 
     def __init__(self, entry: Entry) -> None:
         self.entry, self.begins, self.size = entry, entry.begins, entry.count * entry.width
-        self.none = entry.invalid.to_bytes(entry.width, "little") * entry.count if entry.kind != BYTES else b"\xff" * entry.count
+        none = b"\xff" if entry.kind == BYTES else entry.invalid.to_bytes(entry.width, "little")
+        self.none = none * entry.count
         bits = 8 * entry.width
-        self._least, self._most = (-(2 ** (bits - 1)), 2 ** (bits - 1) - 1) if entry.kind == SIGNED else (0, 2**bits - 1)
+        half = 2 ** (bits - 1)
+        self._least, self._most = (-half, half - 1) if entry.kind == SIGNED else (0, 2**bits - 1)
         self._pack = struct.Struct("<" + entry.float_code).pack
-        self._is_degrees = entry.kind == SIGNED and entry.width == 4 and entry.unit == "semicircles" and not entry.is_scaled
+        is_semicircles = entry.unit == "semicircles" and not entry.is_scaled
+        self._is_degrees = entry.kind == SIGNED and entry.width == 4 and is_semicircles
         self.scale = Fraction(2**31, 180) if self._is_degrees else Fraction(entry.scale)
         self.shift = Fraction(0) if self._is_degrees else Fraction(entry.scale) * Fraction(entry.offset)
         self._is_plain = not entry.is_scaled
@@ -115,7 +121,8 @@ class Packer:
         if isinstance(value, numbers.Integral):
             return operator.index(value)
         if isinstance(value, decimal.Decimal):
-            if not value.is_finite() or abs(value.adjusted()) > _MOST_DIGITS or len(value.as_tuple().digits) > _MOST_DIGITS:
+            digits = len(value.as_tuple().digits)
+            if not value.is_finite() or abs(value.adjusted()) > _MOST_DIGITS or digits > _MOST_DIGITS:
                 raise self.wrong(value)
             return Fraction(value)
         if isinstance(value, numbers.Rational):
@@ -142,7 +149,9 @@ class Packer:
                 raise self.wrong(value)
             value = value if is_local else value.replace(tzinfo=datetime.timezone.utc)
         if (value.tzinfo is None) != is_local:
-            raise WrongValue(f"{value!r} {'has' if value.tzinfo else 'has no'} zone, and a time {'by the clock of the place has none' if is_local else 'needs one'}", self.label, value)
+            has = "has" if value.tzinfo else "has no"
+            needs = "by the clock of the place has none" if is_local else "needs one"
+            raise WrongValue(f"{value!r} {has} zone, and a time {needs}", self.label, value)
         seconds: int = (value - (_NAIVE if is_local else EPOCH)) // _SECOND
         if seconds < SYSTEM_TIMES:
             raise self.wrong(value)
@@ -154,7 +163,7 @@ class Packer:
     def label(self) -> str:
         return label(self.entry.name or self.entry.key)
 
-    def limits(self) -> Tuple[Any, Any]:
+    def limits(self) -> tuple[Any, Any]:
         """The least and the greatest value that the field can have, in its unit."""
         entry = self.entry
         if entry.kind >= FLOAT:
@@ -198,7 +207,8 @@ class Packer:
             return self._one(value)
         items = several(value)
         if len(items) > entry.count:
-            raise WrongValue(f"it has {'over 255' if len(items) > 255 else len(items)} items, and the field {entry.count}", self.label, value)
+            many = "over 255" if len(items) > 255 else len(items)
+            raise WrongValue(f"it has {many} items, and the field {entry.count}", self.label, value)
         found = b"".join(map(self._one, items))
         return found + self.none[len(found) :]
 
@@ -219,20 +229,25 @@ class Packer:
         return made
 
     def _no_float(self, value: Any) -> WrongValue:
-        return WrongValue(f"{shown(value)} is no number that {8 * self.entry.width} bits of a float can have", self.label, value)
+        bits = 8 * self.entry.width
+        return WrongValue(f"{shown(value)} is no number that {bits} bits of a float can have", self.label, value)
 
     def _text(self, value: Any) -> bytes:
         data = text_bytes(value, self.label)
         if len(data) > self.size:
-            raise WrongValue(f"{shown(value)} has {len(data)} bytes{' or more' if len(data) > 255 else ''}, and the field {self.size}", self.label, value)
+            more = " or more" if len(data) > 255 else ""
+            size = f"{len(data)} bytes{more}"
+            raise WrongValue(f"{shown(value)} has {size}, and the field {self.size}", self.label, value)
         return data.ljust(self.size, b"\0")
 
     def _bytes(self, value: Any) -> bytes:
         if not isinstance(value, (bytes, bytearray, memoryview)):
             raise WrongValue(f"it has bytes, and {shown(value)} is none", self.label, value)
-        data = bytes(memoryview(value)[: self.size + 1]) if isinstance(value, memoryview) else bytes(value[: self.size + 1])
+        front = memoryview(value) if isinstance(value, memoryview) else value
+        data = bytes(front[: self.size + 1])
         if len(data) != self.size:
-            raise WrongValue(f"the field has {self.size} bytes, and these are {'more' if len(data) > self.size else len(data)}", self.label, value)
+            count = "more" if len(data) > self.size else len(data)
+            raise WrongValue(f"the field has {self.size} bytes, and these are {count}", self.label, value)
         return data
 
 
@@ -250,18 +265,18 @@ def text_bytes(value: Any, field: str) -> bytes:
         raise WrongValue(f"{shown(value)} has a letter that UTF-8 hasn't", field, value) from None
 
 
-def several(value: Any) -> List[Any]:
-    """The items of a value: those of a list, a tuple, an array or whatever gives them one after another, or the one that it is. Of very many
-    only the first are taken, which are too many."""
+def several(value: Any) -> list[Any]:
+    """The items of a value: those of a list, a tuple, an array or whatever gives them one after another, or the one
+    that it is. Of very many only the first are taken, which are too many."""
     is_one = isinstance(value, (str, bytes, bytearray, datetime.datetime, dict, set, frozenset))
     if is_one or not hasattr(value, "__iter__") or getattr(value, "shape", None) == ():
         return [value]
     return list(itertools.islice(value, 256))
 
 
-def packers(definition: Definition) -> Dict[Any, Packer]:
+def packers(definition: Definition) -> dict[Any, Packer]:
     """What packs each field of a definition, by its keys. It is made once."""
-    found: Optional[Dict[Any, Packer]] = definition.made.get("packers")
+    found: Optional[dict[Any, Packer]] = definition.made.get("packers")
     if found is None:
         by_entry = {id(entry): Packer(entry) for entry in definition.entries}
         found = definition.made["packers"] = {key: by_entry[id(entry)] for key, entry in definition.by_key.items()}

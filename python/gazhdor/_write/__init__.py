@@ -1,0 +1,1 @@
+"""What is written: definitions, messages and files of values, and changed files."""
