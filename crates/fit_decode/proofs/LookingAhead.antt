@@ -1,11 +1,11 @@
 -- What messages that are looked at ahead make of a decoder.
-use Rattle.fit_decode.proofs.Common.{◌≡◌, ◌⊎◌, inl, inr, zero, suc, ℕ, ◌+◌, ◌-◌, ◌<◌, ◌≤◌, ◌^◌, List, [], ◌∷◌, ◌++◌, length, take, drop, refl, sym, ap, ◌∙◌, subst, arith}
-use Rattle.fit_decode.proofs.Common.{None, map, append_assoc, append-nil, length-append, length-drop, length-take-le, take-add, take-append-drop}
+use Rattle.fit_decode.proofs.Common.{◌≡◌, ◌⊎◌, inl, inr, zero, suc, ℕ, ◌+◌, ◌-◌, ◌<◌, ◌≤◌, ◌^◌, List, [], ◌∷◌, ◌++◌, length, take, drop, refl, sym, ap}
+use Rattle.fit_decode.proofs.Common.{◌∙◌, subst, arith, None, map, append_assoc, append-nil, length-append, length-drop, take-add, take-append-drop}
 use Rattle.fit_decode.proofs.Common.{IsBytes, IsBytes-append, IsBytes-take, IsBytes-drop, FileHeader, FitFile, Record, Environment, learn_all}
 use Rattle.fit_decode.proofs.Common.{empty_environment, AllFit, IsRecord, record_bytes, records_bytes, all_fit-append, records_bytes-append, learn_all-append}
 use Rattle.fit_decode.proofs.Common.{Position, idle_between_records, records_in_progress, Inside, IsSoundDecoder, fields_inside, seen_in, refusal_of}
 use Rattle.fit_decode.proofs.Common.{Section, InSection, ClosingSum, Latched, at_data, at_header, HasCome, Event, item, AreEvents, Fields, Holds, HoldsAt}
-use Rattle.fit_decode.proofs.Common.{Least, IsAny, MayLackMemoryIn, lacks_for_event, lacks_in_rest, known_in_data, one_place}
+use Rattle.fit_decode.proofs.Common.{IsAny, MayLackMemoryIn, lacks_for_event, lacks_in_rest, known_in_data, one_place}
 use Rattle.fit_record.specs.declared.message.Values.{Values}
 use Rattle.fit_record.specs.declared.message.Record.TheVariants.{Values as Message}
 use Rattle.fit_chain.specs.Events.{known_after}
@@ -44,7 +44,8 @@ none_ahead {A} d k other = record {
     go fs h n before come (Latched reason) is holds fresh = absurd cc
     go fs h n before come InSection is holds fresh = absurd (other is)
     go fs h n before come ClosingSum is holds fresh =
-        omega (arith, holds.over, (data_here (fields_inside d) d.history.items fs h n before come holds.files holds.header holds.size holds.records _ holds.come).2)
+        let same = data_here (fields_inside d) d.history.items fs h n before come holds.files holds.header holds.size holds.records _ holds.come in
+        omega (arith, holds.over, same.2)
     go fs h n before come Header is holds fresh =
         let same = (one_place holds.files fs (at_header d.sum) (at_data h n before []) d.history.items holds.come come).1 in absurd cc
 
@@ -56,8 +57,8 @@ module _ {A : Type 0} (d : Inside A) (k : IsSoundDecoder d) (at : d.stage.sectio
       let room = kept.size - length (records_bytes empty_environment kept.records) in
       record {
         left = λ fresh fs h n before come.
-            let no_part = (data_here (fields_inside d) d.history.items fs h n before come kept.files kept.header kept.size kept.records kept.part kept.come).1 in
-            absurd (busy ((idle_between_records d.env room kept.part d.position d.in_progress kept.in_record).1 no_part));
+            let same = data_here (fields_inside d) d.history.items fs h n before come kept.files kept.header kept.size kept.records kept.part kept.come in
+            absurd (busy ((idle_between_records d.env room kept.part d.position d.in_progress kept.in_record).1 same.1));
         here = λ some. absurd (omega (arith, some));
       }
 
@@ -69,8 +70,8 @@ module _ {A : Type 0} (d : Inside A) (k : IsSoundDecoder d) (at : d.stage.sectio
       let all = (records_in_progress d.env room kept.part d.position d.in_progress kept.in_record).2 in
       record {
         left = λ fresh fs h n before come.
-            let same = (data_here (fields_inside d) d.history.items fs h n before come kept.files kept.header kept.size kept.records kept.part kept.come).2 in
-            omega (arith, all, ap length no_part, same);
+            let same = data_here (fields_inside d) d.history.items fs h n before come kept.files kept.header kept.size kept.records kept.part kept.come in
+            omega (arith, all, ap length no_part, same.2);
         here = λ some. (
           ap refusal_of at,
           kept.files,
@@ -111,7 +112,8 @@ module _ {A : Type 0} (d : Inside A) (k : IsSoundDecoder d) (piece : List ℕ) (
       elim follow [
         | inl n ↦ inl n
         | inr (fresh, fs, h, n, before, come, within, learns, large) ↦
-            let (at, known, idle, left) = in_data_here (fields_inside d) d.history.items fs h n before come (omega (arith, large)) d.stage.section k.holds fresh in
+            let (at, known, idle, left) =
+                in_data_here (fields_inside d) d.history.items fs h n before come (omega (arith, large)) d.stage.section k.holds fresh in
             inr (at, idle, omega (arith, left, large), subst (λ e. Learns e e (take used piece) rs) (sym known) learns)
       ]
 

@@ -41,7 +41,7 @@ impl<'a> Model for Ahead<'a> {
 
 impl<'a> Ahead<'a> {
     /// Finds the next data message: how many bytes it has, or 0 where none is found. None is found where `Decoder::skip_message` would
-    /// skip none after the messages before it, nor a field description.
+    /// skip none after the messages before, and where a field description comes.
     #[inline(always)]
     pub fn next(&mut self) -> usize
         ensures used { self.new ≡ record self.old { used = self.old.used + result } }
@@ -102,8 +102,8 @@ impl Decoder {
 }
 
 impl<A: Allocator + Copy> Decoder<A> {
-    /// Skips the data messages at the front of the piece that were found when it was looked at ahead: they count as fed, and no event
-    /// is made of them. It takes no memory. `used` is how many bytes they have, 0 where none was found.
+    /// Skips the data messages at the front of the piece that `look_ahead` has found: they count as fed, and no event is made of them.
+    /// `used` is how many bytes they have, or 0. It refuses nothing, and takes no memory.
     pub fn skip_messages(&mut self, piece: &[u8], used: usize)
         requires { (records : List (Record A)) × MessagesFollow A self.old piece.now used records }
         ensures used { self.new ≡ record self.old

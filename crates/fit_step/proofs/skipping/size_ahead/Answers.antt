@@ -1,4 +1,4 @@
-use Rattle.fit_step.proofs.Common.{◌+◌, length, arith}
+use Rattle.fit_step.proofs.Common.{arith}
 use Rattle.fit_record.specs.MessageBytes.{message_in}
 use Rattle.fit_step.proofs.SkippedRecords.{one_learned}
 use Rattle.fit_step.proofs.skipping.size_ahead.Goals as goal

@@ -1,4 +1,4 @@
-use Rattle.fit_decode.proofs.Common.{subst, sym, ◌∙◌, refl}
+use Rattle.fit_decode.proofs.Common.{subst, sym, ◌∙◌}
 use Rattle.fit_decode.proofs.LookingAhead.{none_ahead, none_inside, room_here}
 use Rattle.fit_decode.specs.inner.Aheads.{RoomAhead}
 use Rattle.fit_decode.proofs.decoder.ahead.room_ahead.Goals as goal

@@ -36,7 +36,7 @@ pub returns-clause-whole : goal.returns-clause-whole
 returns-clause-whole c =
     let a = c.self.inside in
     let s = c.size_ahead-size in
-    subst (λ (o : LookedAhead). o.fed.refusal ≡ None → (n : ℕ) → MessageFollows Global (o.fed.bytes ++ take o.used o.piece) (drop o.used o.piece) n → s.result ≡ n)
-    c.self.view_is
+    subst (λ (o : LookedAhead). o.fed.refusal ≡ None → (n : ℕ) → MessageFollows Global (o.fed.bytes ++ take o.used o.piece) (drop o.used o.piece) n
+    → s.result ≡ n) c.self.view_is
     (seen_whole c.decoder.inside c.decoder.invariant a.decoder.now c.decoder.view_is a.piece.now a.used a.room c.self.invariant s.result
     c.split_at.result.1.now c.split_at.ensures.back s.ensures.within s.ensures.message s.ensures.whole)
