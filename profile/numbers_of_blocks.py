@@ -172,7 +172,7 @@ def formats():
     found = block_rows()
     each = [row for row in found if row[0] == 'block']
     for part in ('header', 'definition', 'message', 'entry'):
-        own = [row for row in found if row[0] == part and row[3]]
+        own = list(itertools.takewhile(lambda row: row[3], (row for row in found if row[0] == part)))
         every = sorted(own if part == 'entry' else each + own, key=lambda row: int(row[2]))
         at, code = 0, '<'
         for _, name, number, size, _, _ in every:

@@ -47,7 +47,7 @@ export class UnknownName extends RangeError {
 }
 Object.defineProperty(UnknownName.prototype, "name", { value: "UnknownName", configurable: true, writable: true })
 
-/* How many letters one name has to change to be another. */
+/* How many letters one name has to change to be another: they are put in, left out or changed. */
 function distance(one, other) {
     let row = Array.from({ length: other.length + 1 }, (_, k) => k)
     for (let i = 0; i < one.length; i++) {
@@ -58,12 +58,14 @@ function distance(one, other) {
     return row[other.length]
 }
 
-/* Of some names the one that is most like a name, if it is like it at all: two of three letters are the same. */
-function nearestOf(name, others) {
+/* Of some names the one that is most like a name: that of which the fewest letters are put in, left out or changed. These are at most a third of
+ * the letters of the longer one; their case says nothing. Of several it is the first. */
+export function nearestOf(name, others) {
+    const letters = [...name.toLowerCase()]
     let nearest = null, least = Infinity
     for (const other of [...others].filter(one => one.length <= 80).slice(0, 1000)) {
-        const steps = distance(name.toLowerCase(), other.toLowerCase())
-        if (steps < least && 3 * steps <= Math.max(name.length, other.length)) [nearest, least] = [other, steps]
+        const those = [...other.toLowerCase()], steps = distance(letters, those)
+        if (steps < least && 3 * steps <= Math.max(letters.length, those.length)) [nearest, least] = [other, steps]
     }
     return nearest
 }

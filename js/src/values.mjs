@@ -129,7 +129,8 @@ export function exactOf(entry, part, at) {
     return Array.isArray(value) ? value.map((one, k) => (one === null ? null : decimal(entry, raw[k]))) : decimal(entry, raw)
 }
 
-const HIDING = /^(\.|timestamp$|field_\d+$|dev_\d+_\d+$)/
+/* What is kept for attributes of a message, for its time, and for what has no name. */
+const RESERVED = /^(\.|(timestamp|field_\d+|dev_\d+_\d+|message_\d+)$)/
 
 /* Where the first field is described in the block of a definition, after the name of its message. */
 export function firstEntry(bytes, at = 0) {
@@ -156,7 +157,9 @@ export class Definition {
         // Of several fields with one key the first counts.
         for (const entry of this.entries) {
             if (!this.byNumbers.has(entry.numbers)) this.byNumbers.set(entry.numbers, entry)
-            if (entry.name !== null && !this.byName.has(entry.name)) this.byName.set(entry.name, entry)
+            // A file may give a developer field a name that means something else. It has its numbers, then.
+            const hides = entry.index !== null && RESERVED.test(entry.name ?? "")
+            if (entry.name !== null && !hides && !this.byName.has(entry.name)) this.byName.set(entry.name, entry)
         }
         this.labels = this.#labels()
     }
@@ -165,9 +168,7 @@ export class Definition {
     #labels() {
         const labels = new Map()
         for (const entry of this.byNumbers.values()) {
-            const hides = entry.index !== null && entry.name !== null && HIDING.test(entry.name)
-            const named = entry.name !== null && !hides && this.byName.get(entry.name) === entry
-            labels.set(named ? entry.name : entry.numbers, entry)
+            labels.set(this.byName.get(entry.name) === entry ? entry.name : entry.numbers, entry)
         }
         return labels
     }

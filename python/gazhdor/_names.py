@@ -11,7 +11,7 @@ from ._profile import Kind, number_of, profile
 _COLUMNS = ("message", "message name", "field", "field name", "unit", "scale", "offset", "type", "base type")
 TYPES = ("date_time", "local_date_time")
 # What is kept for attributes of a message, for its time, and for what has no name.
-RESERVED = re.compile(r"\..*|timestamp|field_\d+|dev_\d+_\d+|message_\d+", re.S)
+RESERVED = re.compile(r"\..*|timestamp|field_\d+|dev_\d+_\d+|message_\d+", re.A | re.S)
 
 
 class Named(NamedTuple):

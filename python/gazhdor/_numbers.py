@@ -102,7 +102,7 @@ LEAST_ENTRY = 48
 # The numbers of a block up to what has no length of its own, and of an entry, as `struct` packs them.
 HEADER_FORMAT = "<IBBBBIIQQ"
 DEFINITION_FORMAT = "<IBBBBIIQQHHHH"
-MESSAGE_FORMAT = "<IBBBBIIQQQQQQQ"
+MESSAGE_FORMAT = "<IBBBBIIQQQ"
 ENTRY_FORMAT = "<HHBBBBBBBBIIIQ"
 
 # What a call found.

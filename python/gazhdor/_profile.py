@@ -1,6 +1,5 @@
 """The names of the proved profile, as profile.tsv has them, and what is said of a name that neither it nor a file
 has."""
-import difflib
 import functools
 import itertools
 from collections.abc import Iterable
@@ -13,7 +12,7 @@ if TYPE_CHECKING:
     from ._read.values import Definition
 
 Kind = Union[str, int]
-_MOST_NAMES, _MOST_LETTERS = 1000, 100  # So many names are compared, and none that is longer.
+_MOST_NAMES, _MOST_LETTERS = 1000, 80  # So many names are compared, and none that is longer.
 
 
 class Info(NamedTuple):
@@ -78,6 +77,32 @@ def info_of(message: int, field: int) -> Optional[Info]:
     return (known.told if known else _INFO_OF_ALL).get(field)
 
 
+def nearest_of(name: str, others: Iterable[str]) -> Optional[str]:
+    """Of some names the one that is most like a name: that of which the fewest letters are put in, left out or changed.
+    These are at most a third of the letters of the longer one; their case says nothing. Of several it is the first."""
+    nearest, least = None, len(name) + _MOST_LETTERS
+    for other in others:
+        most = min(max(len(name), len(other)) // 3, least - 1)
+        steps = _steps(name.lower(), other.lower(), most)
+        if steps <= most:
+            nearest, least = other, steps
+    return nearest
+
+
+def _steps(one: str, other: str, most: int) -> int:
+    """How many letters one name has to change to be another; more than `most` where they are more."""
+    if abs(len(one) - len(other)) > most:
+        return most + 1
+    row = list(range(len(other) + 1))
+    for i, letter in enumerate(one, 1):
+        before, row = row, [i]
+        for k, wanted in enumerate(other):
+            row.append(min(before[k + 1] + 1, row[k] + 1, before[k] + (letter != wanted)))
+        if min(row) > most:
+            return most + 1
+    return row[-1]
+
+
 class UnknownName(KeyError):
     """A name that neither the profile nor the file has, nor the names of the caller. `name` is the name, `nearest` the
     one that is most like it, or None."""
@@ -91,10 +116,7 @@ class UnknownName(KeyError):
 
     @property
     def nearest(self) -> Optional[str]:
-        # Letters of another case are no reason for another name.
-        lower = {other.lower(): other for other in reversed(self._others)}
-        near = difflib.get_close_matches(self.name[:_MOST_LETTERS].lower(), lower, 1)
-        return lower[near[0]] if near else None
+        return nearest_of(self.name[:_MOST_LETTERS], self._others)
 
     def __str__(self) -> str:
         near = self.nearest
