@@ -13,6 +13,7 @@ from fits import BYTE, DESCRIBE, SMALL, STRING, UINT16, UINT32, UINT8, any_file,
 import block_model
 
 import gazhdor
+from gazhdor import _numbers as n
 
 FULL = os.environ.get("GAZHDOR_FULL") == "1"
 
@@ -54,17 +55,18 @@ class Blocks(unittest.TestCase):
     def test_headers(self):
         for size in (12, 14, 15, 20, 255):
             for kind in range(3):
-                head = struct.pack("<IBBBBIIQQ", 32 + max(0, size - 14 + -(size - 14) % 8), 1, size, 0x10, kind, 0, 0, 0, 2132) + bytes(max(0, size - 14 + -(size - 14) % 8))
-                self.agree(head + END, size, kind)
+                rest = bytes(max(0, size - 14 + -(size - 14) % 8))
+                self.agree(header(size, 0x10, kind, 2132, rest) + END, size, kind)
 
     def test_places(self):
         """Items may be anywhere in the block of a message, as the entries say, and be those of several fields."""
         blocks = bytearray(gazhdor.blocks(SMALL))
-        at = [place for place, block in walk(blocks) if block[4] == 2][0]
-        entry = at + 40 + (blocks.index(0, at + 40) - at - 40) // 8 * 8 + 8
+        at = [place for place, block in walk(blocks) if block[n.AT_KIND] == n.DEFINITION][0]
+        name = at + n.AT_DEFINITION_NAME
+        entry = name + (blocks.index(0, name) - name) // 8 * 8 + 8
         for begins in (0, 4, 24, 41, 44, 52, 53, 200, 2**32 - 1):
             changed = blocks[:]
-            changed[entry + 12 : entry + 16] = packed("<I", begins)
+            changed[entry + n.AT_ENTRY_ITEMS : entry + n.AT_ENTRY_ITEMS + 4] = packed("<I", begins)
             self.agree(bytes(changed), begins)
 
     def test_cut(self):
@@ -115,7 +117,7 @@ class Blocks(unittest.TestCase):
 
     def test_unwritable(self):
         # the true checksum of this header is 0, for which zeros can't stand
-        head = struct.pack("<IBBBBIIQQ", 32, 1, 14, 32, 1, 0, 0, 0, 46477)
+        head = header(14, 32, n.ZERO_SUM, 46477)
         self.assertEqual(self.agree(head + END), "unwritable")
         with self.assertRaises(gazhdor.BlocksRefused) as caught:
             gazhdor.from_blocks(head + END)
@@ -149,13 +151,18 @@ class Blocks(unittest.TestCase):
             gazhdor.blocks(io.BytesIO(SMALL[:-1]))
 
 
-END = struct.pack("<IBBBBIIQ", 24, 4, 0, 0, 0, 0, 0, 0)
+def header(size, protocol, checksum, profile, rest=b""):
+    """The block of a header, of which the size of the data isn't read."""
+    return struct.pack("<IBBBBIIQQ", n.AT_HEADER_REST + len(rest), n.FILE_HEADER, size, protocol, checksum, 0, 0, 0, profile) + rest
+
+
+END = struct.pack("<IBBBBIIQ", n.LEAST_BLOCK, n.FILE_END, 0, 0, 0, 0, 0, 0)
 
 
 def walk(blocks):
     at = 0
     while at < len(blocks):
-        length = int.from_bytes(blocks[at : at + 4], "little")
+        length = int.from_bytes(blocks[at + n.AT_LENGTH : at + n.AT_LENGTH + 4], "little")
         yield at, bytes(blocks[at : at + length])
         at += length
 

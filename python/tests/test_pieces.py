@@ -16,6 +16,7 @@ from support import BYTES, RIDE, folder, known, left_out
 from fits import DESCRIBE, SMALL, UINT16, UINT32, UINT8, any_file, define, describe, fit
 
 import gazhdor
+from gazhdor import _numbers as n
 from gazhdor._library import library, text_of
 from gazhdor._read.streams import each
 
@@ -133,8 +134,8 @@ class Streams(unittest.TestCase):
         self.assertEqual(blocks, fed("blocks", [data])[0])
         kinds = []
         while at < len(blocks):
-            kinds.append(blocks[at + 4])
-            at += int.from_bytes(blocks[at : at + 4], "little")
+            kinds.append(blocks[at + n.AT_KIND])
+            at += int.from_bytes(blocks[at + n.AT_LENGTH : at + n.AT_LENGTH + 4], "little")
         self.assertEqual((kinds, at), ([1, 2, 3, 2, 3, 4, 1, 2, 2, 3, 3, 3, 2, 3, 4], len(blocks)))
 
     def test_blocks_of_all_bytes(self):
