@@ -1,5 +1,5 @@
-"""What `from_blocks` makes of blocks, worked out here by docs/BLOCKS.md and the protocol alone: the bytes of the files that they say, or the
-first block that can't stand where it is, its place, and the reason."""
+"""What `from_blocks` makes of blocks, worked out here by docs/BLOCKS.md and the protocol alone: the bytes of the files
+that they say, or the first block that can't stand where it is, its place, and the reason."""
 import struct
 
 from gazhdor import _numbers as n
@@ -59,14 +59,16 @@ class File:
 
     def __init__(self, block):
         need(len(block) >= n.AT_HEADER_REST, HEADER)
-        self.size, self.protocol, self.sum = block[n.AT_HEADER_SIZE], block[n.AT_HEADER_PROTOCOL], block[n.AT_HEADER_SUM]
+        self.size, self.protocol = block[n.AT_HEADER_SIZE], block[n.AT_HEADER_PROTOCOL]
+        self.sum = block[n.AT_HEADER_SUM]
         self.profile = number(block, n.AT_HEADER_PROFILE, 8)
         need(self.protocol < 0x30 and self.profile < 65536 and self.sum <= n.OWN_SUM, HEADER)
         end = n.AT_HEADER_REST + self.size - 14
         need(self.size == 12 if self.sum == n.NO_SUM else self.size >= 14 and len(block) >= end, HEADER)
         self.more = block[n.AT_HEADER_REST : end] if self.sum else b""
         self.data = bytearray()
-        # of each local message type whether it is big endian, its message, and of each field its number, place, width, items, or no number
+        # of each local message type whether it is big endian, its message, and of each field its number, place, width,
+        # items, or no number
         self.definitions = {}
         self.codes = {}
 
@@ -76,26 +78,30 @@ class File:
         name = n.AT_DEFINITION_NAME
         need(len(block) > name and 0 in block[name:], ENTRIES)
         at = name + (block.index(0, name) - name) // 8 * 8 + 8
-        need(at <= len(block) and fields < 256 and developers < 256 and (says_developers(block) or developers == 0), ENTRIES)
+        need(at <= len(block) and fields < 256 and developers < 256 and (says_developers(block) or developers == 0),
+            ENTRIES)
         found = []
         for place in range(fields + developers):
             length = number(block, at + n.AT_ENTRY_LENGTH, 2)
-            need(n.AT_ENTRY_NAME <= length <= len(block) - at and block[at + n.AT_ENTRY_DEVELOPER] == (place >= fields), ENTRIES)
+            need(n.AT_ENTRY_NAME <= length <= len(block) - at and block[at + n.AT_ENTRY_DEVELOPER] == (place >= fields),
+                ENTRIES)
             found.append(block[at : at + length])
             at += length
         need(at == len(block), ENTRIES)
         return found
 
     def define(self, block):
-        local, big, reserved = block[n.AT_DEFINITION_LOCAL], block[n.AT_DEFINITION_ARCHITECTURE], block[n.AT_DEFINITION_RESERVED]
+        local, big = block[n.AT_DEFINITION_LOCAL], block[n.AT_DEFINITION_ARCHITECTURE]
+        reserved = block[n.AT_DEFINITION_RESERVED]
         need(local < 16, LOCAL)
         need(big <= n.BIG_ENDIAN, ARCHITECTURE)
         fields, developers, last = [], [], []
         for entry in self.entries(block):
-            of, developer, index, code = entry[n.AT_ENTRY_NUMBER], entry[n.AT_ENTRY_DEVELOPER], entry[n.AT_ENTRY_INDEX], entry[n.AT_ENTRY_BASE_TYPE]
-            width, count = entry[n.AT_ENTRY_WIDTH], entry[n.AT_ENTRY_COUNT]
+            of, developer, index = entry[n.AT_ENTRY_NUMBER], entry[n.AT_ENTRY_DEVELOPER], entry[n.AT_ENTRY_INDEX]
+            code, width, count = entry[n.AT_ENTRY_BASE_TYPE], entry[n.AT_ENTRY_WIDTH], entry[n.AT_ENTRY_COUNT]
             size = width * count
-            need(size < 256 and item_width(self.codes.get((index, of), BYTE) if developer else code, size) == width, SIZE)
+            need(size < 256 and item_width(self.codes.get((index, of), BYTE) if developer else code, size) == width,
+                SIZE)
             (developers if developer else fields).append(bytes([of, size, index if developer else code]))
             last.append((None if developer else of, number(entry, n.AT_ENTRY_ITEMS, 4), width, count))
         says, message = says_developers(block), number(block, n.AT_DEFINITION_MESSAGE, 2)

@@ -1,5 +1,5 @@
-"""Whether `from_blocks` answers as block_model.py does, which has the page docs/BLOCKS.md alone: of the blocks of known files, of those
-files, cut at each byte, and with each byte and number of their blocks changed."""
+"""Whether `from_blocks` answers as block_model.py does, which has the page docs/BLOCKS.md alone: of the blocks of known
+files, of those files, cut at each byte, and with each byte and number of their blocks changed."""
 import io
 import os
 import pickle
@@ -26,11 +26,13 @@ def told(blocks):
         return ("unwritable",) if refused.block is None else ("block", refused.block, refused.place, refused.reason)
 
 
-# All that a file may have, in few bytes: a developer field with its description, both architectures, a compressed header, a field that is no
-# multiple of its width, one of no bytes, one of several numbers, a text, and a definition that only says that there are developer fields.
+# All that a file may have, in few bytes: a developer field with its description, both architectures, a compressed
+# header, a field that is no multiple of its width, one of no bytes, one of several numbers, a text, and a definition
+# that only says that there are developer fields.
 LITTLE = define(0, 20, [(253, 4, UINT32), (3, 1, UINT8), (5, 3, UINT16), (9, 0, UINT8)], [(7, 2, 0), (8, 3, 0)])
 BIG = define(1, 78, [(0, 4, UINT16), (8, 5, STRING), (1, 2, BYTE)], [], big=True)
-TELLING = fit(DESCRIBE, describe(0, 7, UINT16, b"Form", b"W"), LITTLE, b"\0" + bytes(range(1, 14)), BIG, b"\1" + bytes(range(20, 31)), b"\x85" + bytes(range(40, 53)), b"\xa5" + bytes(11))
+TELLING = fit(DESCRIBE, describe(0, 7, UINT16, b"Form", b"W"), LITTLE, b"\0" + bytes(range(1, 14)), BIG,
+    b"\1" + bytes(range(20, 31)), b"\x85" + bytes(range(40, 53)), b"\xa5" + bytes(11))
 CHAIN = SMALL + fit(define(2, 0, [(0, 1, 0)], None, True), b"\2\4")
 
 
@@ -83,7 +85,8 @@ class Blocks(unittest.TestCase):
         found = set()
         for place in range(len(blocks)):
             changed = bytearray(blocks)
-            for value in range(256) if FULL else {0, 1, 2, 3, 4, 5, 13, 14, 15, 16, 31, 32, 0x2F, 0x30, 127, 128, 254, 255, blocks[place] ^ 1, blocks[place] ^ 128}:
+            for value in range(256) if FULL else {0, 1, 2, 3, 4, 5, 13, 14, 15, 16, 31, 32, 0x2F, 0x30, 127, 128, 254,
+                    255, blocks[place] ^ 1, blocks[place] ^ 128}:
                 changed[place] = value
                 found.add(self.agree(bytes(changed), place, value))
         self.assertEqual(found, {"good", *block_model.REASONS})
@@ -95,8 +98,10 @@ class Blocks(unittest.TestCase):
                 if place % width == 0:
                     known = int.from_bytes(blocks[place : place + width], "little")
                     most = 256**width - 1
-                    for value in {0, 24, 31, 32, 33, 40, most, most - 7, most // 2, known + 1 & most, known + 8 & most, known - 1 & most, known - 8 & most, 2 * known & most}:
-                        self.agree(blocks[:place] + value.to_bytes(width, "little") + blocks[place + width :], place, value)
+                    for value in {0, 24, 31, 32, 33, 40, most, most - 7, most // 2, known + 1 & most, known + 8 & most,
+                            known - 1 & most, known - 8 & most, 2 * known & most}:
+                        self.agree(blocks[:place] + value.to_bytes(width, "little") + blocks[place + width :], place,
+                            value)
 
     def test_blocks_moved(self):
         """Blocks left out, repeated and put in another order."""
@@ -127,7 +132,8 @@ class Blocks(unittest.TestCase):
         with self.assertRaises(gazhdor.BlocksRefused) as caught:
             gazhdor.from_blocks(gazhdor.blocks(SMALL)[32:])
         error = caught.exception
-        self.assertEqual((error.block, error.place, error.reason, error.row, str(error)), (0, 0, "Kind", None, "block 0 at 0 refused: Kind"))
+        self.assertEqual((error.block, error.place, error.reason, error.row, str(error)),
+            (0, 0, "Kind", None, "block 0 at 0 refused: Kind"))
         self.assertEqual(error.answer.explanation, "Block 0, which begins at 0, is of a kind that can't stand there.")
         self.assertIsInstance(error, ValueError)
         sent = pickle.loads(pickle.dumps(error))
@@ -153,7 +159,8 @@ class Blocks(unittest.TestCase):
 
 def header(size, protocol, checksum, profile, rest=b""):
     """The block of a header, of which the size of the data isn't read."""
-    return struct.pack("<IBBBBIIQQ", n.AT_HEADER_REST + len(rest), n.FILE_HEADER, size, protocol, checksum, 0, 0, 0, profile) + rest
+    return struct.pack("<IBBBBIIQQ", n.AT_HEADER_REST + len(rest), n.FILE_HEADER, size, protocol, checksum, 0, 0, 0,
+        profile) + rest
 
 
 END = struct.pack("<IBBBBIIQ", n.LEAST_BLOCK, n.FILE_END, 0, 0, 0, 0, 0, 0)
