@@ -1,6 +1,6 @@
 //! What no contract says: how little is kept between the bytes of a file.
 use fit_decode::Decoder;
-use fit_frame::{HeadReader, Reason};
+use fit_frame::HeadReader;
 use fit_history::History;
 use fit_record::{Defined, DevKey, Env, Record};
 use fit_step::Position;
@@ -34,14 +34,14 @@ fn no_list_in_a_position(rt: HostRuntime) {
     assert!(rt; mem::size_of::<Position>() <= 32);
 }
 
-/// Beside what is known and the record in progress, a decoder has no room for the address of a list. Three of its parts are shorter
-/// than an address, and lie in as many bytes.
+/// Beside what is known and the record in progress a decoder has no room for the address of a list. It has a reader of headers (255 bytes,
+/// eight that count them, and a refusal), the two bytes of a sum, a position of at most 32, how many files have ended and which section
+/// comes, and how many bytes were fed. Each lies in a multiple of eight bytes.
 #[test]
 fn no_list_in_a_decoder(rt: HostRuntime) {
     let held = mem::size_of::<Env>() + mem::size_of::<Option<Record>>();
-    let parts = mem::size_of::<HeadReader>() + mem::size_of::<Sum>() + mem::size_of::<Position>();
-    let numbers = 2 * mem::size_of::<u64>() + mem::size_of::<Option<Reason>>();
-    assert!(rt; mem::size_of::<Decoder>() < held + parts + numbers + 2 * ADDRESS);
+    let kept = 272 + 8 + 32 + 8 + 8;
+    assert!(rt; mem::size_of::<Decoder>() < held + kept + ADDRESS);
 }
 
 /// What is known are definitions, lengths of messages and codes of developer fields, and no room is left.
