@@ -10,7 +10,7 @@
  *  - `text` points to a gazhdor_text that is GAZHDOR_NO_TEXT.
  *  - A gazhdor_text that a call has filled is given to gazhdor_free once, by whoever made the call.
  *  - malloc, realloc and free belong to one another, and no call is made in a signal handler.
- *  - The thread has room: a call takes less than 48 KB of stack, so that 64 KiB suffice for a thread of its own.
+ *  - The thread has room: a call takes less than 49,152 bytes of stack, so that 64 KiB suffice for a thread of its own.
  *  - What is said of a gazhdor_stream below.
  *
  *     gazhdor_text table = GAZHDOR_NO_TEXT;

@@ -109,7 +109,7 @@ def c_header(text):
 
 
 def c_names(text):
-    """c/gazhdor.c, with the names of statuses and of reasons."""
+    """c/beside.h, with the names of statuses and of reasons."""
     said = ''.join(f'    case GAZHDOR_{name}: return "{words}";\n' for name, words, _ in statuses())
     text = put(text, 'switch (status) {\n', said, '    default:')
     said = ''.join(f'    case GAZHDOR_{shouted(name)}: return "{name}";\n' for name, _ in reasons('reasons', 'byte'))
@@ -235,7 +235,7 @@ def wanted():
     """Each file that has these names, with the text that it ought to have."""
     yield 'c/gazhdor_numbers.h', c_numbers()
     yield 'c/gazhdor.h', c_header(read('c/gazhdor.h'))
-    yield 'c/gazhdor.c', c_names(read('c/gazhdor.c'))
+    yield 'c/beside.h', c_names(read('c/beside.h'))
     yield 'python/gazhdor/_numbers.py', python()
     yield 'rust/src/numbers.rs', rust()
     yield 'rust/src/base_type.rs', rust_types(read('rust/src/base_type.rs'))

@@ -186,7 +186,7 @@ static void changed_values(gazhdor_text blocks, uint8_t *bytes)
     WANT(!isnan(gazhdor_value(time, at.block, 0)));
     time.width = 2;
     WANT(isnan(gazhdor_value(time, at.block, 0)));
-    bytes[place + 5] |= 4 << GAZHDOR_SPEED;
+    bytes[place + GAZHDOR_AT_MESSAGE_BITS] |= GAZHDOR_TOLD_SPEED << GAZHDOR_SPEED;
     WANT(isnan(gazhdor_amount(at.block, GAZHDOR_SPEED)));
     bytes[at.definition.bytes - bytes + 5] = 4;
     WANT(isnan(gazhdor_amount(at.definition, GAZHDOR_SPEED)));
@@ -201,7 +201,7 @@ static void no_blocks(gazhdor_text blocks, uint8_t *bytes)
     while (at.message != 20)
         WANT(gazhdor_next(&at));
     size_t place = (size_t)(at.block.bytes - bytes);
-    bytes[place + 24] = 9;
+    bytes[place + GAZHDOR_AT_MESSAGE_DEFINITION] = 9;
     at = gazhdor_read(blocks);
     while (at.block.kind != GAZHDOR_MESSAGE)
         WANT(gazhdor_next(&at));

@@ -47,22 +47,22 @@ static void put_number(uint8_t *at, int width, uint64_t value)
 static uint8_t *put_block(uint8_t *at, uint8_t kind, uint64_t length)
 {
     put_number(at, 4, length);
-    at[4] = kind;
+    at[GAZHDOR_AT_KIND] = kind;
     return at + length;
 }
 
 /* A header of 12 bytes, without a checksum. */
 static uint8_t *put_header(uint8_t *at, size_t length)
 {
-    at[5] = 12;
-    at[6] = 32;
+    at[GAZHDOR_AT_HEADER_SIZE] = 12;
+    at[GAZHDOR_AT_HEADER_PROTOCOL] = 32;
     return put_block(at, GAZHDOR_FILE_HEADER, length);
 }
 
 static uint8_t *put_message(uint8_t *at, uint8_t local, uint64_t length)
 {
-    at[6] = local;
-    at[7] = 255;
+    at[GAZHDOR_AT_MESSAGE_LOCAL] = local;
+    at[GAZHDOR_AT_MESSAGE_OFFSET] = GAZHDOR_NO_OFFSET;
     return put_block(at, GAZHDOR_MESSAGE, length);
 }
 
@@ -71,11 +71,11 @@ enum { HEADER = 32, DEFINITION = 48, ENTRY = 32, END = 24, NUMBER = 0xFF00 };
 /* A definition of the message 0xFF00, without a name; its entries come after it. */
 static uint8_t *put_definition(uint8_t *at, uint8_t local, size_t fields, size_t developer)
 {
-    at[5] = local;
+    at[GAZHDOR_AT_DEFINITION_LOCAL] = local;
     put_number(at + 32, 2, NUMBER);
     put_number(at + 34, 2, fields);
     put_number(at + 36, 2, developer);
-    at[38] = developer != 0;
+    at[GAZHDOR_AT_DEFINITION_BITS] = developer != 0;
     put_block(at, GAZHDOR_DEFINITION, DEFINITION + (fields + developer) * ENTRY);
     return at + DEFINITION;
 }
@@ -122,7 +122,7 @@ static void far_places(void)
     is_refused(blocks, length, GAZHDOR_BLOCK_KIND, 4, FAR_FRONT + 2 * greatest);
     is_refused(blocks, length - END, GAZHDOR_BLOCK_CUT, 4, FAR_FRONT + 2 * greatest);
     is_refused(blocks, length - END - 1, GAZHDOR_BLOCK_CUT, 3, FAR_FRONT + greatest);
-    second[greatest + 4] = GAZHDOR_FILE_END;
+    second[greatest + GAZHDOR_AT_KIND] = GAZHDOR_FILE_END;
     WANT(gazhdor_from_messages(blocks, length, &file).status == GAZHDOR_GOOD && file.length == 12 + sizeof wanted + 2);
     WANT(memcmp(file.bytes + 12, wanted, sizeof wanted) == 0 && gazhdor_check(file.bytes, file.length).status == GAZHDOR_GOOD);
     gazhdor_free(file);

@@ -123,16 +123,30 @@ static void set(block_list *in, size_t at, int width, uint64_t value)
 }
 
 /* The places at which there are numbers, by the kind of a block, or of each. */
-static const struct { uint8_t kind, at, width; } places[] = { { 0, 4, 1 }, { 0, 8, 4 }, { 0, 12, 4 }, { 0, 16, 8 }, { 1, 5, 1 }, { 1, 6, 1 },
-    { 1, 7, 1 }, { 1, 24, 8 }, { 2, 5, 1 }, { 2, 6, 1 }, { 2, 7, 1 }, { 2, 24, 8 }, { 2, 32, 2 }, { 2, 34, 2 }, { 2, 36, 2 }, { 2, 38, 2 },
-    { 2, 40, 1 }, { 3, 5, 1 }, { 3, 6, 1 }, { 3, 7, 1 }, { 3, 24, 8 }, { 3, 32, 8 } };
-static const struct { uint8_t at, width; } in_entry[] = { { 0, 2 }, { 2, 2 }, { 4, 1 }, { 5, 1 }, { 6, 1 }, { 7, 1 }, { 8, 1 }, { 9, 1 },
-    { 10, 1 }, { 11, 1 }, { 12, 4 }, { 16, 4 }, { 20, 4 }, { 24, 8 } };
+static const struct { uint8_t kind, at, width; } places[] = {
+    { 0, GAZHDOR_AT_KIND, 1 }, { 0, GAZHDOR_AT_FILE, 4 }, { 0, GAZHDOR_AT_MESSAGE_TIME, 4 }, { 0, GAZHDOR_AT_PLACE, 8 },
+    { GAZHDOR_FILE_HEADER, GAZHDOR_AT_HEADER_SIZE, 1 }, { GAZHDOR_FILE_HEADER, GAZHDOR_AT_HEADER_PROTOCOL, 1 },
+    { GAZHDOR_FILE_HEADER, GAZHDOR_AT_HEADER_SUM, 1 }, { GAZHDOR_FILE_HEADER, GAZHDOR_AT_HEADER_PROFILE, 8 },
+    { GAZHDOR_DEFINITION, GAZHDOR_AT_DEFINITION_LOCAL, 1 }, { GAZHDOR_DEFINITION, GAZHDOR_AT_DEFINITION_ARCHITECTURE, 1 },
+    { GAZHDOR_DEFINITION, GAZHDOR_AT_DEFINITION_RESERVED, 1 }, { GAZHDOR_DEFINITION, GAZHDOR_AT_DEFINITION_NUMBER, 8 },
+    { GAZHDOR_DEFINITION, GAZHDOR_AT_DEFINITION_MESSAGE, 2 }, { GAZHDOR_DEFINITION, GAZHDOR_AT_DEFINITION_FIELDS, 2 },
+    { GAZHDOR_DEFINITION, GAZHDOR_AT_DEFINITION_DEVELOPERS, 2 }, { GAZHDOR_DEFINITION, GAZHDOR_AT_DEFINITION_BITS, 2 },
+    { GAZHDOR_DEFINITION, GAZHDOR_AT_DEFINITION_NAME, 1 },
+    { GAZHDOR_MESSAGE, GAZHDOR_AT_MESSAGE_BITS, 1 }, { GAZHDOR_MESSAGE, GAZHDOR_AT_MESSAGE_LOCAL, 1 },
+    { GAZHDOR_MESSAGE, GAZHDOR_AT_MESSAGE_OFFSET, 1 }, { GAZHDOR_MESSAGE, GAZHDOR_AT_MESSAGE_DEFINITION, 8 },
+    { GAZHDOR_MESSAGE, GAZHDOR_AT_MESSAGE_HEADER_TIME, 8 },
+};
+static const struct { uint8_t at, width; } in_entry[] = {
+    { GAZHDOR_AT_ENTRY_LENGTH, 2 }, { GAZHDOR_AT_ENTRY_UNIT, 2 }, { GAZHDOR_AT_ENTRY_NUMBER, 1 }, { GAZHDOR_AT_ENTRY_DEVELOPER, 1 },
+    { GAZHDOR_AT_ENTRY_INDEX, 1 }, { GAZHDOR_AT_ENTRY_BASE_TYPE, 1 }, { GAZHDOR_AT_ENTRY_KIND, 1 }, { GAZHDOR_AT_ENTRY_WIDTH, 1 },
+    { GAZHDOR_AT_ENTRY_COUNT, 1 }, { GAZHDOR_AT_ENTRY_DECIMALS, 1 }, { GAZHDOR_AT_ENTRY_ITEMS, 4 }, { GAZHDOR_AT_ENTRY_SCALE, 4 },
+    { GAZHDOR_AT_ENTRY_OFFSET, 4 }, { GAZHDOR_AT_ENTRY_INVALID, 8 },
+};
 
 static void change_number(block_list *in, size_t start)
 {
     size_t i = any() % (sizeof places / sizeof *places);
-    while (places[i].kind != 0 && places[i].kind != in->bytes[start + 4])
+    while (places[i].kind != 0 && places[i].kind != in->bytes[start + GAZHDOR_AT_KIND])
         i = any() % (sizeof places / sizeof *places);
     set(in, start + places[i].at, places[i].width, edge());
 }
@@ -162,7 +176,7 @@ static void change(block_list *in)
     case 0: lie(in, start, length); break;
     case 1: case 2: case 3: change_number(in, start); break;
     case 4: case 5:
-        if (in->bytes[start + 4] == GAZHDOR_DEFINITION) {
+        if (in->bytes[start + GAZHDOR_AT_KIND] == GAZHDOR_DEFINITION) {
             change_entry(in, start, length);
             break;
         }
@@ -223,7 +237,7 @@ static void add_seed(gazhdor_text blocks)
         length = own_length(blocks, at);
         add(seed, blocks.bytes + at, length);
     }
-    if (blocks.bytes[at - length + 4] != GAZHDOR_FILE_END)
+    if (blocks.bytes[at - length + GAZHDOR_AT_KIND] != GAZHDOR_FILE_END)
         add(seed, end, END);
     gazhdor_text front = { seed->bytes, seed->starts[seed->count] };
     judge(front);

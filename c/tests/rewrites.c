@@ -26,7 +26,7 @@ static void set_again(gazhdor_writer *to, const gazhdor_reader *at)
         }
         PUT(gazhdor_set_items(to, f, items.bytes, items.length));
     }
-    PUT(gazhdor_set_offset(to, at->block.bytes[7]));
+    PUT(gazhdor_set_offset(to, at->block.bytes[GAZHDOR_AT_MESSAGE_OFFSET]));
 }
 
 /* Whether the blocks are those of a file with these bytes. */
@@ -72,13 +72,13 @@ static gazhdor_writer without_a_field(gazhdor_text blocks)
     gazhdor_writer to = gazhdor_write(NULL, 0, gazhdor_by_realloc, NULL);
     for (gazhdor_reader at = gazhdor_read(blocks); gazhdor_next(&at);) {
         uint32_t local = at.block.bytes[at.block.kind == GAZHDOR_DEFINITION ? 5 : 6] & 15;
-        uint32_t number = (uint32_t)gazhdor_load(at.definition, 32, 2);
+        uint32_t number = (uint32_t)gazhdor_load(at.definition, GAZHDOR_AT_DEFINITION_MESSAGE, 2);
         if (at.block.kind == GAZHDOR_DEFINITION) {
             counts[local] = fields_without(at.block, number == 20 ? gazhdor_first_field(at.block).number : 999, fields[local]);
             PUT(gazhdor_put_definition(&to, local, number, fields[local], counts[local]));
         } else if (at.block.kind == GAZHDOR_MESSAGE) {
             PUT(gazhdor_put_message(&to, local));
-            PUT(gazhdor_set_offset(&to, at.block.bytes[7]));
+            PUT(gazhdor_set_offset(&to, at.block.bytes[GAZHDOR_AT_MESSAGE_OFFSET]));
             for (size_t i = 0; i < counts[local]; i++) {
                 gazhdor_field f = gazhdor_developer(at.definition, fields[local][i].index, fields[local][i].number);
                 f = fields[local][i].developer ? f : gazhdor_numbered(at.definition, fields[local][i].number);
@@ -106,7 +106,7 @@ static int same_items(const gazhdor_reader *whole, const gazhdor_reader *part, i
         f = gazhdor_next_field(whole->definition, f);
         g = gazhdor_next_field(part->definition, g);
     }
-    return !f.there && !g.there && whole->block.bytes[7] == part->block.bytes[7];
+    return !f.there && !g.there && whole->block.bytes[GAZHDOR_AT_MESSAGE_OFFSET] == part->block.bytes[GAZHDOR_AT_MESSAGE_OFFSET];
 }
 
 /* Whether these blocks say a file whose messages are those of `blocks`, records without their first field where `is_without`. */
@@ -172,13 +172,13 @@ static void wrong_blocks(void)
     gazhdor_block header = gazhdor_block_at(&from, 0), definition = gazhdor_block_at(&from, 32), message = gazhdor_block_at(&from, 128), cut = header;
     cut.length -= 8;
     WANT(gazhdor_put_block(&to, cut) == GAZHDOR_PUT_LENGTH && put_changed(&to, header, 0, 24) == GAZHDOR_PUT_LENGTH);
-    WANT(put_changed(&to, header, 4, 0) == GAZHDOR_PUT_LENGTH && put_changed(&to, header, 4, 5) == GAZHDOR_PUT_LENGTH);
+    WANT(put_changed(&to, header, GAZHDOR_AT_KIND, 0) == GAZHDOR_PUT_LENGTH && put_changed(&to, header, GAZHDOR_AT_KIND, 5) == GAZHDOR_PUT_LENGTH);
     WANT(gazhdor_put_block(&to, definition) == GAZHDOR_PUT_ORDER && to.length == 0);
     PUT(gazhdor_put_block(&to, header));
     WANT(gazhdor_put_block(&to, message) == GAZHDOR_PUT_LOCAL && put_changed(&to, definition, 5, 16) == GAZHDOR_PUT_LOCAL);
     PUT(gazhdor_put_block(&to, definition));
     WANT(put_changed(&to, message, 6, 16) == GAZHDOR_PUT_LOCAL && put_changed(&to, message, 6, 255) == GAZHDOR_PUT_LOCAL);
-    WANT(put_changed(&to, message, 6, 0) == GAZHDOR_PUT_LOCAL && to.length == 128);
+    WANT(put_changed(&to, message, GAZHDOR_AT_MESSAGE_LOCAL, 0) == GAZHDOR_PUT_LOCAL && to.length == 128);
     for (size_t i = 0; i < sizeof lengths / sizeof lengths[0]; i++) {
         memcpy(to.bytes + 32 + 12, &lengths[i], 4);
         WANT(gazhdor_put_message(&to, 1) == GAZHDOR_PUT_LENGTH && to.length == 128);

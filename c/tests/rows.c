@@ -136,18 +136,20 @@ static void put_value(gazhdor_field field, gazhdor_block message)
 static void put_header(gazhdor_block block)
 {
     static const char *const sums[] = { "none", "zero", "sum" };
-    unsigned size = block.bytes[5];
-    printf("file,%u,%u,%u,%s,", size, block.bytes[6], (unsigned)gazhdor_load(block, 24, 8), sums[block.bytes[7]]);
+    unsigned size = block.bytes[GAZHDOR_AT_HEADER_SIZE];
+    printf("file,%u,%u,%u,%s,", size, block.bytes[GAZHDOR_AT_HEADER_PROTOCOL], (unsigned)gazhdor_load(block, GAZHDOR_AT_HEADER_PROFILE, 8),
+        sums[block.bytes[GAZHDOR_AT_HEADER_SUM]]);
     put_hex(block.bytes + 32, size > 14 ? size - 14 : 0);
     puts(",");
 }
 
 static void put_definition(gazhdor_block block)
 {
-    unsigned own = (unsigned)gazhdor_load(block, 36, 2);
-    printf("def,%u,%u,%s,%u,%u,", block.bytes[5], block.bytes[7], block.bytes[6] ? "big" : "little", (unsigned)gazhdor_load(block, 32, 2),
-        (unsigned)gazhdor_load(block, 34, 2));
-    if (gazhdor_load(block, 38, 2) & 1)
+    unsigned own = (unsigned)gazhdor_load(block, GAZHDOR_AT_DEFINITION_DEVELOPERS, 2);
+    printf("def,%u,%u,%s,%u,%u,", block.bytes[GAZHDOR_AT_DEFINITION_LOCAL], block.bytes[GAZHDOR_AT_DEFINITION_RESERVED],
+        block.bytes[GAZHDOR_AT_DEFINITION_ARCHITECTURE] == GAZHDOR_BIG_ENDIAN ? "big" : "little",
+        (unsigned)gazhdor_load(block, GAZHDOR_AT_DEFINITION_MESSAGE, 2), (unsigned)gazhdor_load(block, GAZHDOR_AT_DEFINITION_FIELDS, 2));
+    if (gazhdor_load(block, GAZHDOR_AT_DEFINITION_BITS, 2) & GAZHDOR_SAYS_DEVELOPERS)
         printf("%u", own);
     puts("");
     for (gazhdor_field f = gazhdor_first_field(block); f.there; f = gazhdor_next_field(block, f))
@@ -158,9 +160,9 @@ static void put_message(gazhdor_reader at)
 {
     char name[64];
     const char *known = gazhdor_message_name(at.definition);
-    printf("data,%u,", at.block.bytes[6]);
-    if (at.block.bytes[7] != 255)
-        printf("%u", at.block.bytes[7]);
+    printf("data,%u,", at.block.bytes[GAZHDOR_AT_MESSAGE_LOCAL]);
+    if (at.block.bytes[GAZHDOR_AT_MESSAGE_OFFSET] != GAZHDOR_NO_OFFSET)
+        printf("%u", at.block.bytes[GAZHDOR_AT_MESSAGE_OFFSET]);
     snprintf(name, sizeof name, "message_%u", (unsigned)at.message);
     printf(",%s,", *known ? known : name);
     put_time(gazhdor_header_time(at.block));

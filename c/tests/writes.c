@@ -36,7 +36,7 @@ static void two_orders(void)
     PUT(gazhdor_set_value(&to, little[1], 0, 120));
     size_t place = to.length;
     PUT(gazhdor_put_definition(&to, 1, GAZHDOR_MESSAGE_RECORD, big, 2));
-    to.bytes[place + 6] = 1; /* its architecture, by docs/BLOCKS.md */
+    to.bytes[place + GAZHDOR_AT_DEFINITION_ARCHITECTURE] = GAZHDOR_BIG_ENDIAN;
     PUT(gazhdor_put_message(&to, 1));
     PUT(gazhdor_set_value(&to, big[0], 0, 0));
     PUT(gazhdor_set_items(&to, big[1], (const uint8_t *)"\x64\x00\x10", 3));
@@ -293,7 +293,7 @@ static void unwritable(void)
     gazhdor_text file = GAZHDOR_NO_TEXT;
     PUT(gazhdor_put_header(&to, 46477));
     PUT(gazhdor_put_end(&to));
-    to.bytes[7] = 1;
+    to.bytes[GAZHDOR_AT_HEADER_SUM] = GAZHDOR_ZERO_SUM;
     gazhdor_answer a = gazhdor_from_messages(to.bytes, to.length, &file);
     WANT(a.status == GAZHDOR_UNWRITABLE && a.reason == 0 && a.place == 0 && a.row == 0 && file.length == 0);
     free(to.bytes);

@@ -8,6 +8,7 @@ import { test } from "node:test"
 import { gzipSync } from "node:zlib"
 import { OutOfMemory, Trapped, WrongModule } from "../src/answers.mjs"
 import { copied } from "../src/core.mjs"
+import * as n from "../src/numbers.mjs"
 import { Stream, VERSION, open } from "../gazhdor.mjs"
 import { MODULE, RIDE, allFiles, bytesAt, cut, exportsOf, folder, inTree, joined, needs, opened, random, sha256, textAt, thrown, trapping } from "./tools.mjs"
 
@@ -26,7 +27,7 @@ function told() {
 }
 
 const KINDS = { show: "show", table: "table", to_csv: "toCsv", messages: "blocks" }
-const NUMBERS = { check: 0, show: 1, table: 2, to_csv: 3, messages: 4 }
+const NUMBERS = { check: n.STREAM_CHECK, show: n.STREAM_SHOW, table: n.STREAM_TABLE, to_csv: n.STREAM_TO_CSV, messages: n.STREAM_MESSAGES }
 const core = await opened()
 
 /* The numbers of an answer, as the library has them. */

@@ -5,6 +5,7 @@ import { test } from "node:test"
 import { BLOCK_REASONS, BlocksRefused, FitError, REASONS, Refused, TextRefused, TooManyCells, Truncated } from "../src/answers.mjs"
 import { Stream, UnknownName, degrees, open, when } from "../gazhdor.mjs"
 import { Walk } from "../src/messages.mjs"
+import * as n from "../src/numbers.mjs"
 import { PROFILE } from "../src/profile.mjs"
 import { RIDE, allFiles, joined, textAt, thrown } from "./tools.mjs"
 
@@ -297,7 +298,8 @@ test("a mended file has all records before the fault", () => {
 test("a message of a definition that didn't come is none", () => {
     const blocks = new Stream(gazhdor, "blocks").feed(RIDE), view = new DataView(blocks.buffer)
     assert.equal(new Walk().messages(blocks).length, 149)
-    for (let at = 0; at < blocks.length; at += view.getUint32(at, true)) if (blocks[at + 4] === 3) view.setBigUint64(at + 24, 1000n, true)
+    for (let at = 0; at < blocks.length; at += view.getUint32(at + n.AT_LENGTH, true))
+        if (blocks[at + n.AT_KIND] === n.MESSAGE) view.setBigUint64(at + n.AT_MESSAGE_DEFINITION, 1000n, true)
     assert.throws(() => new Walk().messages(blocks), /without its definition/)
 })
 
@@ -316,11 +318,12 @@ test("a value that is changed in blocks is changed in the file", () => {
     // The first record of the ride has its altitude, field 2, 408 m, as 4540 fifths of a metre above -500 m.
     const blocks = gazhdor.blocks(RIDE), view = new DataView(blocks.buffer)
     let at = 0, definition = 0
-    for (; blocks[at + 4] !== 3 || view.getBigUint64(at + 24, true) !== view.getBigUint64(definition + 24, true); at += view.getUint32(at, true))
-        if (blocks[at + 4] === 2 && view.getUint16(at + 32, true) === 20) definition = at
-    let entry = definition + 48 // after "record"
-    while (blocks[entry + 4] !== 2) entry += view.getUint16(entry, true)
-    const begins = at + view.getUint32(entry + 12, true)
+    const isOfIt = () => view.getBigUint64(at + n.AT_MESSAGE_DEFINITION, true) === view.getBigUint64(definition + n.AT_DEFINITION_NUMBER, true)
+    for (; blocks[at + n.AT_KIND] !== n.MESSAGE || !isOfIt(); at += view.getUint32(at + n.AT_LENGTH, true))
+        if (blocks[at + n.AT_KIND] === n.DEFINITION && view.getUint16(at + n.AT_DEFINITION_MESSAGE, true) === 20) definition = at
+    let entry = definition + n.AT_DEFINITION_NAME + "record\0\0".length
+    while (blocks[entry + n.AT_ENTRY_NUMBER] !== 2) entry += view.getUint16(entry + n.AT_ENTRY_LENGTH, true)
+    const begins = at + view.getUint32(entry + n.AT_ENTRY_ITEMS, true)
     assert.equal(view.getUint16(begins, true), 4540)
     view.setUint16(begins, 4545, true)
     const changed = gazhdor.fromBlocks(blocks), { altitude } = gazhdor.columns(changed, "record", ["altitude"])
@@ -339,12 +342,12 @@ test("blocks that are refused", () => {
     told(blocks.subarray(0, first), ["Cut", 1, first])
     told(blocks.subarray(first), ["Kind", 0, 0])
     const other = blocks.slice()
-    other[first + 6] = 2
+    other[first + n.AT_DEFINITION_ARCHITECTURE] = 2
     told(other, ["Architecture", 1, first])
     assert.equal(thrown(BlocksRefused, () => gazhdor.fromBlocks(other)).explanation, `Block 1, which begins at ${first}, has an architecture that is neither 0 nor 1.`)
     // The checksum of this header is 0, and zeros can't stand for it.
     const none = gazhdor.blocks(gazhdor.fromCsv("row,a,b,c,d,e,f\nfile,14,32,46477,sum,,\nend,,,,,,\n"))
-    none[7] = 1
+    none[n.AT_HEADER_SUM] = n.ZERO_SUM
     const fault = thrown(BlocksRefused, () => gazhdor.fromBlocks(none))
     assert.deepEqual([fault.message, fault.block, fault.place, fault.reason], ["no file has such blocks", null, null, null])
     assert.match(fault.explanation, /^The blocks are those of files that have no bytes/)

@@ -1,5 +1,5 @@
-"""Files that the tests of messages in Python write, as the FIT protocol has them, and what the rows of `to_csv` tell of a file, read here by
-docs/CSV.md."""
+"""Files that the tests of messages in Python write, as the FIT protocol has them, and what the rows of `to_csv` tell of
+a file, read here by docs/CSV.md."""
 import collections
 import csv
 import datetime
@@ -13,7 +13,8 @@ import gazhdor
 
 # ---- files, written as the FIT protocol has them
 
-UINT8, STRING, BYTE, SINT16, UINT16, SINT32, UINT32, FLOAT32, FLOAT64, SINT64, UINT64 = 2, 7, 13, 0x83, 0x84, 0x85, 0x86, 0x88, 0x89, 0x8E, 0x8F
+UINT8, STRING, BYTE, SINT16, UINT16, SINT32, UINT32 = 2, 7, 13, 0x83, 0x84, 0x85, 0x86
+FLOAT32, FLOAT64, SINT64, UINT64 = 0x88, 0x89, 0x8E, 0x8F
 # of each base type its width, its invalid item, and a letter: s signed, u unsigned, t text, f float, b bytes
 TYPES = {0: (1, 0xFF, "u"), 1: (1, 0x7F, "s"), 2: (1, 0xFF, "u"), 7: (1, 0, "t"), 10: (1, 0, "u"), 13: (1, 0xFF, "b")}
 TYPES.update({0x83: (2, 0x7FFF, "s"), 0x84: (2, 0xFFFF, "u"), 0x85: (4, 0x7FFFFFFF, "s"), 0x86: (4, 0xFFFFFFFF, "u")})
@@ -39,7 +40,8 @@ def fit(*records):
 
 def define(local, number, fields, developer=None, big=False):
     """A definition message of fields (number, size, base type), and of developer fields (number, size, index)."""
-    record = struct.pack(">BBBHB" if big else "<BBBHB", 0x40 | (developer is not None) << 5 | local, 0, big, number, len(fields))
+    record = struct.pack(">BBBHB" if big else "<BBBHB", 0x40 | (developer is not None) << 5 | local, 0, big, number,
+        len(fields))
     record += b"".join(map(bytes, fields))
     return record if developer is None else record + bytes([len(developer)]) + b"".join(map(bytes, developer))
 
@@ -52,7 +54,8 @@ def describe(index, number, code, name, unit):
 
 
 def any_bytes(r, size):
-    data = r.choice((bytes(size), b"\xff" * size, b"\xff\x7f" * size, bytes(r.randrange(256) for _ in range(size)), b"R\xc3\xa4der" * size))
+    data = r.choice((bytes(size), b"\xff" * size, b"\xff\x7f" * size, bytes(r.randrange(256) for _ in range(size)),
+        b"R\xc3\xa4der" * size))
     return data[:size]
 
 
@@ -68,14 +71,16 @@ def any_fields(r, number):
 def any_file(r):
     """A file of random definitions, data, compressed headers and developer fields."""
     records, sizes = [DESCRIBE], {}
-    for index, number, name in ((0, 0, b"Form power"), (0, 1, b"heart_rate"), (1, 0, b""), (1, 7, b"\xff"), (2, 2, b"Form power")):
+    for index, number, name in ((0, 0, b"Form power"), (0, 1, b"heart_rate"), (1, 0, b""), (1, 7, b"\xff"),
+            (2, 2, b"Form power")):
         records.append(describe(index, number, r.choice([*TYPES, 99]), name, r.choice((b"", b"W", b"\xc2\xb0C"))))
     for _ in range(r.randrange(60)):
         local = r.randrange(15)
         if local not in sizes or r.random() < 0.1:
             number = r.choice((20, 20, 20, 18, 0, 31, 65280))
             fields = any_fields(r, number)
-            developer = [(r.randrange(3), r.choice((1, 2, 4, 8, 3)), r.randrange(3)) for _ in range(r.randrange(4))] if r.random() < 0.5 else None
+            developer = [(r.randrange(3), r.choice((1, 2, 4, 8, 3)), r.randrange(3))
+                for _ in range(r.randrange(4))] if r.random() < 0.5 else None
             records.append(define(local, number, fields, developer, r.random() < 0.5))
             sizes[local] = [size for _, size, _ in fields + (developer or [])]
         for _ in range(r.choice((1, 1, 2, 5, 20))):
@@ -85,7 +90,8 @@ def any_file(r):
 
 
 # The description of a developer field with the message (14) and the field (15) that it stands for.
-NATIVE = define(14, 206, [(0, 1, UINT8), (1, 1, UINT8), (2, 1, UINT8), (3, 12, STRING), (8, 6, STRING), (14, 2, UINT16), (15, 1, UINT8)])
+NATIVE = define(14, 206, [(0, 1, UINT8), (1, 1, UINT8), (2, 1, UINT8), (3, 12, STRING), (8, 6, STRING), (14, 2, UINT16),
+    (15, 1, UINT8)])
 
 
 def native(index, number, code, name, message, field):
@@ -94,7 +100,8 @@ def native(index, number, code, name, message, field):
 
 def one(*fields, number=20, developer=None, before=(), names=None):
     """The last message of a file: fields are (number, base type, bytes), developer fields (number, index, bytes)."""
-    definition = define(0, number, [(n, len(data), code) for n, code, data in fields], developer and [(n, len(data), index) for n, index, data in developer])
+    definition = define(0, number, [(n, len(data), code) for n, code, data in fields],
+        developer and [(n, len(data), index) for n, index, data in developer])
     data = b"".join(data for _, _, data in [*fields, *(developer or [])])
     *_, message = gazhdor.messages(fit(*before, definition, b"\0" + data), names=names)
     return message
@@ -122,7 +129,8 @@ def from_cell(text, code, size):
     if kind == "f":
         raw = [int(cell, 16) for cell in cells]
         form = "<If" if width == 4 else "<Qd"
-        values = exact = [None if bits == invalid else struct.unpack("<" + form[2], struct.pack(form[:2], bits))[0] for bits in raw]
+        values = exact = [None if bits == invalid else struct.unpack("<" + form[2], struct.pack(form[:2], bits))[0]
+            for bits in raw]
     else:
         values = [None if not cell else float(cell) if "." in cell else int(cell) for cell in cells]
         exact = [None if not cell else decimal.Decimal(cell) if "." in cell else int(cell) for cell in cells]
@@ -165,7 +173,8 @@ def as_text(time):
 
 
 def label_of(field):
-    return field.name or (f"field_{field.number}" if field.developer is None else f"dev_{field.developer}_{field.number}")
+    return field.name or (f"field_{field.number}" if field.developer is None
+        else f"dev_{field.developer}_{field.number}")
 
 
 def packed(form, *numbers):

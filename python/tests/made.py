@@ -1,4 +1,5 @@
-"""Files that the tests of what Python writes make by the module gazhdor, and how a file goes through its values and back."""
+"""Files that the tests of what Python writes make by the module gazhdor, and how a file goes through its values and
+back."""
 import io
 import struct
 
@@ -44,7 +45,8 @@ def through_values(data, names=None):
             if isinstance(event, gazhdor.FileHeader):
                 out.file(event.protocol, event.profile, event.size, event.checksum, event.more)
             elif isinstance(event, gazhdor.DefinitionMessage):
-                made = out.define(event.number, event.fields, event.local, event.big, event.reserved, event.says_developers)
+                made = out.define(event.number, event.fields, event.local, event.big, event.reserved,
+                    event.says_developers)
                 made.begin()
                 definitions[event.local] = made
             elif isinstance(event, gazhdor.Message):

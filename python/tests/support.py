@@ -1,5 +1,5 @@
-"""What the tests of the module gazhdor share: where the tree is, folders of their own, recordings, and what is left out. It comes before
-gazhdor among the imports of a test, as it has Python find that of the tree."""
+"""What the tests of the module gazhdor share: where the tree is, folders of their own, recordings, and what is left
+out. It comes before gazhdor among the imports of a test, as it has Python find that of the tree."""
 import atexit
 import functools
 import os

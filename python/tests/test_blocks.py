@@ -1,5 +1,5 @@
-"""Whether `from_blocks` answers as block_model.py does, which has the page docs/BLOCKS.md alone: of the blocks of known files, of those
-files, cut at each byte, and with each byte and number of their blocks changed."""
+"""Whether `from_blocks` answers as block_model.py does, which has the page docs/BLOCKS.md alone: of the blocks of known
+files, of those files, cut at each byte, and with each byte and number of their blocks changed."""
 import io
 import os
 import pickle
@@ -13,6 +13,7 @@ from fits import BYTE, DESCRIBE, SMALL, STRING, UINT16, UINT32, UINT8, any_file,
 import block_model
 
 import gazhdor
+from gazhdor import _numbers as n
 
 FULL = os.environ.get("GAZHDOR_FULL") == "1"
 
@@ -25,11 +26,13 @@ def told(blocks):
         return ("unwritable",) if refused.block is None else ("block", refused.block, refused.place, refused.reason)
 
 
-# All that a file may have, in few bytes: a developer field with its description, both architectures, a compressed header, a field that is no
-# multiple of its width, one of no bytes, one of several numbers, a text, and a definition that only says that there are developer fields.
+# All that a file may have, in few bytes: a developer field with its description, both architectures, a compressed
+# header, a field that is no multiple of its width, one of no bytes, one of several numbers, a text, and a definition
+# that only says that there are developer fields.
 LITTLE = define(0, 20, [(253, 4, UINT32), (3, 1, UINT8), (5, 3, UINT16), (9, 0, UINT8)], [(7, 2, 0), (8, 3, 0)])
 BIG = define(1, 78, [(0, 4, UINT16), (8, 5, STRING), (1, 2, BYTE)], [], big=True)
-TELLING = fit(DESCRIBE, describe(0, 7, UINT16, b"Form", b"W"), LITTLE, b"\0" + bytes(range(1, 14)), BIG, b"\1" + bytes(range(20, 31)), b"\x85" + bytes(range(40, 53)), b"\xa5" + bytes(11))
+TELLING = fit(DESCRIBE, describe(0, 7, UINT16, b"Form", b"W"), LITTLE, b"\0" + bytes(range(1, 14)), BIG,
+    b"\1" + bytes(range(20, 31)), b"\x85" + bytes(range(40, 53)), b"\xa5" + bytes(11))
 CHAIN = SMALL + fit(define(2, 0, [(0, 1, 0)], None, True), b"\2\4")
 
 
@@ -54,17 +57,18 @@ class Blocks(unittest.TestCase):
     def test_headers(self):
         for size in (12, 14, 15, 20, 255):
             for kind in range(3):
-                head = struct.pack("<IBBBBIIQQ", 32 + max(0, size - 14 + -(size - 14) % 8), 1, size, 0x10, kind, 0, 0, 0, 2132) + bytes(max(0, size - 14 + -(size - 14) % 8))
-                self.agree(head + END, size, kind)
+                rest = bytes(max(0, size - 14 + -(size - 14) % 8))
+                self.agree(header(size, 0x10, kind, 2132, rest) + END, size, kind)
 
     def test_places(self):
         """Items may be anywhere in the block of a message, as the entries say, and be those of several fields."""
         blocks = bytearray(gazhdor.blocks(SMALL))
-        at = [place for place, block in walk(blocks) if block[4] == 2][0]
-        entry = at + 40 + (blocks.index(0, at + 40) - at - 40) // 8 * 8 + 8
+        at = [place for place, block in walk(blocks) if block[n.AT_KIND] == n.DEFINITION][0]
+        name = at + n.AT_DEFINITION_NAME
+        entry = name + (blocks.index(0, name) - name) // 8 * 8 + 8
         for begins in (0, 4, 24, 41, 44, 52, 53, 200, 2**32 - 1):
             changed = blocks[:]
-            changed[entry + 12 : entry + 16] = packed("<I", begins)
+            changed[entry + n.AT_ENTRY_ITEMS : entry + n.AT_ENTRY_ITEMS + 4] = packed("<I", begins)
             self.agree(bytes(changed), begins)
 
     def test_cut(self):
@@ -81,7 +85,8 @@ class Blocks(unittest.TestCase):
         found = set()
         for place in range(len(blocks)):
             changed = bytearray(blocks)
-            for value in range(256) if FULL else {0, 1, 2, 3, 4, 5, 13, 14, 15, 16, 31, 32, 0x2F, 0x30, 127, 128, 254, 255, blocks[place] ^ 1, blocks[place] ^ 128}:
+            for value in range(256) if FULL else {0, 1, 2, 3, 4, 5, 13, 14, 15, 16, 31, 32, 0x2F, 0x30, 127, 128, 254,
+                    255, blocks[place] ^ 1, blocks[place] ^ 128}:
                 changed[place] = value
                 found.add(self.agree(bytes(changed), place, value))
         self.assertEqual(found, {"good", *block_model.REASONS})
@@ -93,8 +98,10 @@ class Blocks(unittest.TestCase):
                 if place % width == 0:
                     known = int.from_bytes(blocks[place : place + width], "little")
                     most = 256**width - 1
-                    for value in {0, 24, 31, 32, 33, 40, most, most - 7, most // 2, known + 1 & most, known + 8 & most, known - 1 & most, known - 8 & most, 2 * known & most}:
-                        self.agree(blocks[:place] + value.to_bytes(width, "little") + blocks[place + width :], place, value)
+                    for value in {0, 24, 31, 32, 33, 40, most, most - 7, most // 2, known + 1 & most, known + 8 & most,
+                            known - 1 & most, known - 8 & most, 2 * known & most}:
+                        self.agree(blocks[:place] + value.to_bytes(width, "little") + blocks[place + width :], place,
+                            value)
 
     def test_blocks_moved(self):
         """Blocks left out, repeated and put in another order."""
@@ -115,7 +122,7 @@ class Blocks(unittest.TestCase):
 
     def test_unwritable(self):
         # the true checksum of this header is 0, for which zeros can't stand
-        head = struct.pack("<IBBBBIIQQ", 32, 1, 14, 32, 1, 0, 0, 0, 46477)
+        head = header(14, 32, n.ZERO_SUM, 46477)
         self.assertEqual(self.agree(head + END), "unwritable")
         with self.assertRaises(gazhdor.BlocksRefused) as caught:
             gazhdor.from_blocks(head + END)
@@ -125,7 +132,8 @@ class Blocks(unittest.TestCase):
         with self.assertRaises(gazhdor.BlocksRefused) as caught:
             gazhdor.from_blocks(gazhdor.blocks(SMALL)[32:])
         error = caught.exception
-        self.assertEqual((error.block, error.place, error.reason, error.row, str(error)), (0, 0, "Kind", None, "block 0 at 0 refused: Kind"))
+        self.assertEqual((error.block, error.place, error.reason, error.row, str(error)),
+            (0, 0, "Kind", None, "block 0 at 0 refused: Kind"))
         self.assertEqual(error.answer.explanation, "Block 0, which begins at 0, is of a kind that can't stand there.")
         self.assertIsInstance(error, ValueError)
         sent = pickle.loads(pickle.dumps(error))
@@ -149,13 +157,19 @@ class Blocks(unittest.TestCase):
             gazhdor.blocks(io.BytesIO(SMALL[:-1]))
 
 
-END = struct.pack("<IBBBBIIQ", 24, 4, 0, 0, 0, 0, 0, 0)
+def header(size, protocol, checksum, profile, rest=b""):
+    """The block of a header, of which the size of the data isn't read."""
+    return struct.pack("<IBBBBIIQQ", n.AT_HEADER_REST + len(rest), n.FILE_HEADER, size, protocol, checksum, 0, 0, 0,
+        profile) + rest
+
+
+END = struct.pack("<IBBBBIIQ", n.LEAST_BLOCK, n.FILE_END, 0, 0, 0, 0, 0, 0)
 
 
 def walk(blocks):
     at = 0
     while at < len(blocks):
-        length = int.from_bytes(blocks[at : at + 4], "little")
+        length = int.from_bytes(blocks[at + n.AT_LENGTH : at + n.AT_LENGTH + 4], "little")
         yield at, bytes(blocks[at : at + length])
         at += length
 

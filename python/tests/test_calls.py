@@ -1,5 +1,5 @@
-"""What the module gazhdor must answer: of the ride by the points of examples/ride.gpx, of which another program made it; of other bytes by
-what the FIT protocol says."""
+"""What the module gazhdor must answer: of the ride by the points of examples/ride.gpx, of which another program made
+it; of other bytes by what the FIT protocol says."""
 import datetime
 import gzip
 import io
@@ -31,10 +31,12 @@ def points():
 
 class Checks(unittest.TestCase):
     def test_good(self):
-        for source in (RIDE, pathlib.Path(RIDE), BYTES, bytearray(BYTES), memoryview(BYTES), memoryview(BYTES[::-1])[::-1]):
+        for source in (RIDE, pathlib.Path(RIDE), BYTES, bytearray(BYTES), memoryview(BYTES),
+                memoryview(BYTES[::-1])[::-1]):
             answer = gazhdor.check(source)
             self.assertTrue(answer.good and bool(answer))
-            self.assertEqual((answer.files, answer.place, answer.reason, answer.row, answer.column, str(answer)), (1, None, None, None, None, "ok"))
+            self.assertEqual((answer.files, answer.place, answer.reason, answer.row, answer.column, str(answer)),
+                (1, None, None, None, None, "ok"))
         self.assertEqual(gazhdor.check(3 * BYTES).files, 3)
 
     def test_truncated(self):
@@ -57,7 +59,8 @@ class Checks(unittest.TestCase):
 
 
 class Slow(io.RawIOBase):
-    """A file whose read gives a few bytes at once, and after `end` bytes fails, or where `fault` is None, waits for no more."""
+    """A file whose read gives a few bytes at once, and after `end` bytes fails, or where `fault` is None, waits for no
+    more."""
 
     def __init__(self, end=len(BYTES), fault=None):
         self.at, self.end, self.fault = 0, end, fault
@@ -75,7 +78,8 @@ class Sources(unittest.TestCase):
     def test_file_objects(self):
         """A file object is read from where it is to its end, and stays open."""
         packed = gzip.compress(BYTES)
-        for opened in (io.BytesIO(BYTES), open(RIDE, "rb"), gzip.open(io.BytesIO(packed)), Slow(), tempfile.SpooledTemporaryFile()):
+        for opened in (io.BytesIO(BYTES), open(RIDE, "rb"), gzip.open(io.BytesIO(packed)), Slow(),
+                tempfile.SpooledTemporaryFile()):
             with opened as file:
                 if isinstance(file, tempfile.SpooledTemporaryFile):
                     file.write(b"before" + BYTES)
@@ -110,13 +114,15 @@ class Sources(unittest.TestCase):
         self.assertEqual(str(caught.exception), "the file object's read returned str, and not bytes")
         with self.assertRaises(gazhdor.NotBinary) as caught:
             gazhdor.check(io.StringIO())
-        self.assertEqual(str(caught.exception), "the file object is opened as text, which has no bytes: open it as 'rb'")
+        self.assertEqual(str(caught.exception),
+            "the file object is opened as text, which has no bytes: open it as 'rb'")
 
     def test_no_source(self):
         for source in (None, 5, ["ride.fit"], object()):
             with self.assertRaises(TypeError) as caught:
                 gazhdor.check(source)
-            self.assertEqual(str(caught.exception), f"a source is a path, bytes or a binary file object, and not {type(source).__name__}")
+            self.assertEqual(str(caught.exception),
+                f"a source is a path, bytes or a binary file object, and not {type(source).__name__}")
 
     def test_reads_that_fail(self):
         broken = OSError(5, "Input/output error")
@@ -168,7 +174,8 @@ class Tables(unittest.TestCase):
         whole = list(gazhdor.table(RIDE))
         with self.assertRaises(gazhdor.Truncated) as caught:
             next(gazhdor.table(BYTES[:2000]))
-        self.assertEqual((caught.exception.place, caught.exception.reason, caught.exception.answer.good), (2000, None, False))
+        self.assertEqual((caught.exception.place, caught.exception.reason, caught.exception.answer.good),
+            (2000, None, False))
         rows = []
         with self.assertRaises(gazhdor.Truncated):
             for row in gazhdor.table(BYTES[:2000], partial=True):
@@ -190,10 +197,12 @@ class Texts(unittest.TestCase):
 
     def test_bad_texts(self):
         head = "row,a,b,c,d,e,f\n"
-        for text, row, column in (("", 1, None), (head, 2, None), (head + "end,,,,,,\n", 2, None), (head + "file,14,32,65536,sum,,\nend,,,,,,\n", 2, 4)):
+        for text, row, column in (("", 1, None), (head, 2, None), (head + "end,,,,,,\n", 2, None),
+                (head + "file,14,32,65536,sum,,\nend,,,,,,\n", 2, 4)):
             with self.assertRaises(gazhdor.TextRefused) as caught:
                 gazhdor.from_csv(text)
-            self.assertEqual((caught.exception.row, caught.exception.column, caught.exception.place), (row, column, None))
+            self.assertEqual((caught.exception.row, caught.exception.column, caught.exception.place),
+                (row, column, None))
         # the true checksum of this header is 0, for which zeros can't stand
         with self.assertRaises(gazhdor.TextRefused) as caught:
             gazhdor.from_csv(head + "file,14,32,46477,zero,,\nend,,,,,,\n")
@@ -214,7 +223,8 @@ class Texts(unittest.TestCase):
 class Threads(unittest.TestCase):
     def test_four(self):
         wanted, found = gazhdor.table_text(BYTES), []
-        work = lambda: found.extend(gazhdor.table_text(BYTES) == wanted and gazhdor.check(BYTES).files == 1 for _ in range(100))
+        work = lambda: found.extend(gazhdor.table_text(BYTES) == wanted and gazhdor.check(BYTES).files == 1
+            for _ in range(100))
         four = [threading.Thread(target=work) for _ in range(4)]
         for thread in four:
             thread.start()
@@ -232,12 +242,14 @@ class Processes(unittest.TestCase):
         self.assertEqual((answer.good, answer.place, str(answer)), (False, 20, "truncated at byte 20"))
         with multiprocessing.Pool(2) as pool:
             self.assertEqual(pool.map(gazhdor.table_text, [RIDE, BYTES]), 2 * [gazhdor.table_text(RIDE)])
-            for source, kind, place, reason in ((BYTES[:20], gazhdor.Truncated, 20, None), (b"\x0d", gazhdor.Refused, 0, "HeaderSize")):
+            for source, kind, place, reason in ((BYTES[:20], gazhdor.Truncated, 20, None),
+                    (b"\x0d", gazhdor.Refused, 0, "HeaderSize")):
                 with self.assertRaises(kind) as caught:
                     pool.apply_async(gazhdor.to_csv, (source,)).get(timeout=60)
                 self.assertEqual((caught.exception.place, caught.exception.reason), (place, reason))
             with self.assertRaises(gazhdor.TextRefused) as caught:
-                pool.apply_async(gazhdor.from_csv, ("row,a,b,c,d,e,f\nfile,14,32,65536,sum,,\nend,,,,,,\n",)).get(timeout=60)
+                pool.apply_async(gazhdor.from_csv,
+                    ("row,a,b,c,d,e,f\nfile,14,32,65536,sum,,\nend,,,,,,\n",)).get(timeout=60)
             self.assertEqual((caught.exception.row, caught.exception.column), (2, 4))
 
 
@@ -256,7 +268,8 @@ class Shell(unittest.TestCase):
         self.assertEqual(run("-m", "gazhdor").returncode, 2)
         self.assertEqual(run("-m", "gazhdor", "frob", RIDE).returncode, 2)
         for word in ("-h", "--help"):
-            self.assertEqual((run("-m", "gazhdor", word).returncode, run("-m", "gazhdor", word).stdout[:6]), (0, b"usage:"))
+            self.assertEqual((run("-m", "gazhdor", word).returncode, run("-m", "gazhdor", word).stdout[:6]),
+                (0, b"usage:"))
         self.assertEqual(run("-m", "gazhdor", "--version").stdout, f"gazhdor {VERSION}\n".encode())
         none = os.path.join(WORK, "none.fit")
         done = run("-m", "gazhdor", "check", none, WORK, RIDE)
@@ -284,7 +297,8 @@ class Shell(unittest.TestCase):
             self.assertEqual((done.returncode, done.stderr), (1, b"-: truncated at byte 2000\n"))
             self.assertTrue(0 < len(done.stdout) < len(whole) and whole.startswith(done.stdout))
         done = run("-m", "gazhdor", "from-csv", input=b"row,a,b,c,d,e,f\n")
-        self.assertEqual((done.returncode, done.stdout, done.stderr), (1, b"", b"-: row 2 refused: the text ends where a row must follow that begins with file\n"))
+        self.assertEqual((done.returncode, done.stdout, done.stderr),
+            (1, b"", b"-: row 2 refused: the text ends where a row must follow that begins with file\n"))
         done = run("-m", "gazhdor", "table", input=b"\x0d")
         self.assertEqual((done.returncode, done.stderr), (1, b"-: refused at byte 0: HeaderSize\n"))
 
@@ -299,7 +313,8 @@ class Shell(unittest.TestCase):
             done = subprocess.run(words, stdout=full, stderr=subprocess.PIPE)
         self.assertEqual((done.returncode, done.stderr), (4, b"output: No space left on device\n"))
         for closed, said in ((">&-", b"there is no standard output\n"), ("<&-", b"-: there is no standard input\n")):
-            done = subprocess.run(["sh", "-c", f'"$0" -m gazhdor check {closed}', sys.executable], stdin=subprocess.DEVNULL, stdout=subprocess.PIPE, stderr=subprocess.PIPE)
+            done = subprocess.run(["sh", "-c", f'"$0" -m gazhdor check {closed}', sys.executable],
+                stdin=subprocess.DEVNULL, stdout=subprocess.PIPE, stderr=subprocess.PIPE)
             self.assertEqual((done.returncode, done.stderr), (4, said))
 
 
@@ -317,9 +332,11 @@ class Examples(unittest.TestCase):
 
     def odd(self, size, cell, time):
         """A file of two records, with a power that sqlite3 has no whole number for, and with one or two heart rates."""
-        rows = ["row,a,b,c,d,e,f", "file,14,32,2065,sum,,", "def,0,0,little,20,3,", "fdef,253,4,134,,,", f"fdef,3,{size},2,,,", "fdef,7,8,143,,,"]
+        rows = ["row,a,b,c,d,e,f", "file,14,32,2065,sum,,", "def,0,0,little,20,3,", "fdef,253,4,134,,,",
+            f"fdef,3,{size},2,,,", "fdef,7,8,143,,,"]
         for seconds, power in ((time, "18446744073709551614"), (time + 60, "")):
-            rows += ["data,0,,record,,,", f"field,timestamp,{seconds},s,,,", f"field,heart_rate,{cell},bpm,,,", f"field,power,{power},watts,,,"]
+            rows += ["data,0,,record,,,", f"field,timestamp,{seconds},s,,,", f"field,heart_rate,{cell},bpm,,,",
+                f"field,power,{power},watts,,,"]
         path = os.path.join(WORK, f"odd{time}{cell}.fit")
         with open(path, "wb") as file:
             file.write(gazhdor.from_csv("\n".join([*rows, "end,,,,,,\n"])))
@@ -335,19 +352,23 @@ class Examples(unittest.TestCase):
         with open(paths[0], "rb") as whole, open(cut, "wb") as file:
             file.write(whole.read()[:1000])
         none = os.path.join(WORK, "none.fit")
-        odd = [self.odd(size, cell, time) for size, cell, time in ((1, "60", 77), (2, "60|61", 1000000000), (2, "|60", 1000000000))]
+        odd = [self.odd(size, cell, time) for size, cell, time in ((1, "60", 77), (2, "60|61", 1000000000),
+            (2, "|60", 1000000000))]
         done = run(example("load_rides.py"), database, "2", *paths, cut, none, *odd)
         self.assertEqual((done.returncode, done.stderr), (0, b""))
         self.assertIn(b"15 files, 2 not good, 1", done.stdout)
         with sqlite3.connect(database) as into:
             self.assertEqual(into.execute("select count(*) from ride where finding = 'ok'").fetchone(), (13,))
-            self.assertEqual(into.execute("select finding from ride where path = ?", (cut,)).fetchone(), ("truncated at byte 1000",))
+            self.assertEqual(into.execute("select finding from ride where path = ?", (cut,)).fetchone(),
+                ("truncated at byte 1000",))
             finding = into.execute("select finding from ride where path = ?", (none,)).fetchone()[0]
             self.assertIn("No such file or directory", finding)
-            counts = into.execute("select count(*) from record join ride on ride.id = record.ride where finding = 'ok' group by record.ride").fetchall()
+            counted = "select count(*) from record join ride on ride.id = record.ride where finding = 'ok'"
+            counts = into.execute(f"{counted} group by record.ride").fetchall()
             self.assertEqual(sorted(counts), 3 * [(2,)] + 10 * [(120,)])
             for path in (paths[3], cut, *odd):
-                found = into.execute("select record.* from record join ride on ride.id = record.ride where path = ? order by record.rowid", (path,)).fetchall()
+                of_ride = "select record.* from record join ride on ride.id = record.ride where path = ?"
+                found = into.execute(f"{of_ride} order by record.rowid", (path,)).fetchall()
                 self.compare(found, path)
         into.close()
         # It fills no database that is there already.

@@ -1,5 +1,5 @@
-"""What the lists, the arrays and the lines of JSON of the module gazhdor must be: those of its messages, of which python/tests/test_messages.py sees
-what they are."""
+"""What the lists, the arrays and the lines of JSON of the module gazhdor must be: those of its messages, of which
+python/tests/test_messages.py sees what they are."""
 import contextlib
 import datetime
 import importlib.util
@@ -37,30 +37,42 @@ def numpy_or(*names):
 
 MIXED = [fit(*records) for records in (
     (
-        define(0, 20, [(253, 4, UINT32), (3, 1, UINT8), (2, 2, UINT16)]), packed("<BIBH", 0, 1000000000, 60, 2500), packed("<BIBH", 0, 77, 255, 65535),
-        define(1, 20, [(3, 1, 1), (0, 4, SINT32), (8, 3, BYTE), (7, 2, UINT16)]), packed("<BbiBBBH", 0xA0, -1, -90, 0x64, 0, 0x10, 200),
+        define(0, 20, [(253, 4, UINT32), (3, 1, UINT8), (2, 2, UINT16)]), packed("<BIBH", 0, 1000000000, 60, 2500),
+        packed("<BIBH", 0, 77, 255, 65535),
+        define(1, 20, [(3, 1, 1), (0, 4, SINT32), (8, 3, BYTE), (7, 2, UINT16)]),
+        packed("<BbiBBBH", 0xA0, -1, -90, 0x64, 0, 0x10, 200),
         define(2, 21, [(253, 4, UINT32)]), packed("<BI", 2, 1000000050), packed("<BIBH", 0, 1000000100, 61, 2510),
-        *(packed("<BIBH", 0, 1000000200 + k, k, 3000 + k) for k in range(40)), *(packed("<BbiBBBH", 1, k, k * k, k, 0x10, k, k) for k in range(40)),
+        *(packed("<BIBH", 0, 1000000200 + k, k, 3000 + k) for k in range(40)),
+        *(packed("<BbiBBBH", 1, k, k * k, k, 0x10, k, k) for k in range(40)),
     ),
     (
-        DESCRIBE, describe(0, 1, FLOAT32, b"Strain", b"N"), define(0, 20, [(3, 2, UINT8), (5, 4, UINT32)], [(1, 4, 0)]), packed("<BBBIf", 0, 1, 255, 100, 1.5),
-        define(3, 20, [(3, 1, UINT8), (5, 4, FLOAT32)], [(1, 4, 0)]), packed("<BBff", 3, 9, 0.5, -1.5), packed("<BBII", 3, 255, NONE4, NONE4),
+        DESCRIBE, describe(0, 1, FLOAT32, b"Strain", b"N"), define(0, 20, [(3, 2, UINT8), (5, 4, UINT32)], [(1, 4, 0)]),
+        packed("<BBBIf", 0, 1, 255, 100, 1.5),
+        define(3, 20, [(3, 1, UINT8), (5, 4, FLOAT32)], [(1, 4, 0)]), packed("<BBff", 3, 9, 0.5, -1.5),
+        packed("<BBII", 3, 255, NONE4, NONE4),
     ),
 )]
-# Two definitions of the record by turns, with another message now and then: lists of numbers, floats of which some stand for no value, and a place.
-FIRST, SECOND = [(253, 4, UINT32), (69, 2, UINT8), (70, 6, UINT16), (0, 4, SINT32), (1, 4, SINT32)], [(1, 4, SINT32), (0, 4, SINT32), (69, 2, UINT8), (2, 2, UINT16), (250, 4, FLOAT32)]
-TURNS = fit(DESCRIBE, describe(0, 1, FLOAT32, b"Strain", b"N"), define(0, 20, FIRST, [(1, 4, 0)]), define(1, 20, SECOND), define(2, 78, [(0, 10, UINT16)]), *(
+# Two definitions of the record by turns, with another message now and then: lists of numbers, floats of which some
+# stand for no value, and a place.
+FIRST, SECOND = [(253, 4, UINT32), (69, 2, UINT8), (70, 6, UINT16), (0, 4, SINT32), (1, 4, SINT32)], [(1, 4, SINT32),
+    (0, 4, SINT32), (69, 2, UINT8), (2, 2, UINT16), (250, 4, FLOAT32)]
+TURNS = fit(DESCRIBE, describe(0, 1, FLOAT32, b"Strain", b"N"), define(0, 20, FIRST, [(1, 4, 0)]),
+    define(1, 20, SECOND), define(2, 78, [(0, 10, UINT16)]), *(
     part for k in range(3000) for part in (
-        packed("<BI2B3HiiI", 0, 1000000000 + k, k % 256, 255, k, 65535, 7, 2**31 - 1 - k % 3, -k, (NONE4, 0x7FC00000, 0x3F800000)[k % 3]) if k % 7 < 4
-        else packed("<Bii2BHI", 1, -(2**31) + k, k, 255, k % 255, k, (NONE4, 0xFFBFFFFF, 0x7F800000, 0xBF800000)[k % 4]),
+        packed("<BI2B3HiiI", 0, 1000000000 + k, k % 256, 255, k, 65535, 7, 2**31 - 1 - k % 3, -k,
+            (NONE4, 0x7FC00000, 0x3F800000)[k % 3]) if k % 7 < 4
+        else packed("<Bii2BHI", 1, -(2**31) + k, k, 255, k % 255, k,
+            (NONE4, 0xFFBFFFFF, 0x7F800000, 0xBF800000)[k % 4]),
         packed("<B5H", 2, k, k, k, k, 65535) * (k % 3),
     )
 ))
 TIMES = fit(
-    define(0, 19, [(253, 4, UINT32), (2, 4, UINT32)]), *(packed("<BII", 0, *two) for two in ((1000000001, 1000000000), (NONE4, 77), (NONE4, NONE4))),
+    define(0, 19, [(253, 4, UINT32), (2, 4, UINT32)]), *(packed("<BII", 0, *two) for two in ((1000000001, 1000000000),
+        (NONE4, 77), (NONE4, NONE4))),
     define(0, 34, [(5, 4, UINT32)]), packed("<BI", 0, 1000007200),
 )
-KEYS = [".file", ".place", ".local", ".seconds", ".speed", ".distance", ".total_cycles", 3, 2, "altitude", 0, 253, "power", 5, "Strain", (0, 1), "cadence", 250, 69, 70, ".latitude", ".longitude", 1, (9, 9)]
+KEYS = [".file", ".place", ".local", ".seconds", ".speed", ".distance", ".total_cycles", 3, 2, "altitude", 0, 253,
+    "power", 5, "Strain", (0, 1), "cadence", 250, 69, 70, ".latitude", ".longitude", 1, (9, 9)]
 
 
 def utc(*numbers):
@@ -76,8 +88,10 @@ class Columns(unittest.TestCase):
             return [message.time for message in messages]
         if key in (".latitude", ".longitude"):
             names = ("position_lat", "position_long")
-            return [gazhdor.degrees(message[names[key == ".longitude"]]) if all(name in message for name in names) else None for message in messages]
-        return [getattr(message, key[1:]) if isinstance(key, str) and key[0] == "." else message.get(key) for message in messages]
+            return [gazhdor.degrees(message[names[key == ".longitude"]]) if all(name in message for name in names)
+                else None for message in messages]
+        return [getattr(message, key[1:]) if isinstance(key, str) and key[0] == "." else message.get(key)
+            for message in messages]
 
     def keys(self, source):
         """The keys but for names that the file hasn't, which are an error."""
@@ -95,7 +109,8 @@ class Columns(unittest.TestCase):
 
     def test_all_fields(self):
         found = gazhdor.lists(MIXED[1] + MIXED[0], "record")
-        self.assertEqual(list(found), ["timestamp", "heart_rate", "distance", "Strain", "altitude", "position_lat", "compressed_speed_distance", "power"])
+        self.assertEqual(list(found), ["timestamp", "heart_rate", "distance", "Strain", "altitude", "position_lat",
+            "compressed_speed_distance", "power"])
         self.assertEqual(gazhdor.lists(BYTES, 31), {5: ["Lake loop"], 4: [0]})
 
     def test_random(self):
@@ -103,7 +118,8 @@ class Columns(unittest.TestCase):
         for _ in range(20):
             source = b"".join(any_file(r) for _ in range(3))
             for kind in ("record", 18, 0, 65280):
-                messages, with_times = list(gazhdor.messages(source, only=kind)), gazhdor.lists(source, kind, times=True)
+                messages, with_times = list(gazhdor.messages(source, only=kind)), gazhdor.lists(source, kind,
+                    times=True)
                 for key, column in gazhdor.lists(source, kind).items():
                     wanted = self.wanted(messages, key)
                     self.assertEqual(repr(column), repr(wanted))
@@ -118,17 +134,26 @@ class Columns(unittest.TestCase):
 
     def test_not_installed(self):
         for call, name in (("columns", "numpy"), ("frame", "pandas")):
-            program = f"import sys; sys.modules[{name!r}] = None\nimport gazhdor\ntry: gazhdor.{call}({RIDE!r}, 'record')\nexcept ImportError as error: print(error.name, error)"
+            program = f"""
+import sys
+sys.modules[{name!r}] = None
+import gazhdor
+try: gazhdor.{call}({RIDE!r}, 'record')
+except ImportError as error: print(error.name, error)
+"""
             done = subprocess.run([sys.executable, "-c", program], stdout=subprocess.PIPE, check=True)
-            self.assertEqual(done.stdout.decode(), f"{name} this call of gazhdor needs {name}, which isn't installed: pip install {name}\n")
+            self.assertEqual(done.stdout.decode(),
+                f"{name} this call of gazhdor needs {name}, which isn't installed: pip install {name}\n")
 
     def compare(self, numpy, column, wanted):
         """An array with a list: NaN and NaT stand for None, NaT also for 'system+N'."""
         if column.dtype == object:
             self.assertEqual(repr(list(column)), repr(wanted))
         elif column.dtype.kind == "M":
-            found = [None if numpy.isnat(time) else time.astype(object).replace(tzinfo=datetime.timezone.utc) for time in column]
-            self.assertEqual((str(column.dtype), found), ("datetime64[s]", [None if isinstance(value, str) else value for value in wanted]))
+            found = [None if numpy.isnat(time) else time.astype(object).replace(tzinfo=datetime.timezone.utc)
+                for time in column]
+            self.assertEqual((str(column.dtype), found), ("datetime64[s]", [None if isinstance(value, str) else value
+                for value in wanted]))
         else:
             self.assertEqual((str(column.dtype), len(column)), ("float64", len(wanted)))
             for number, value in zip(column.tolist(), wanted):
@@ -158,18 +183,24 @@ class Columns(unittest.TestCase):
                 self.assertEqual(list(found), list(plain))
                 messages = list(gazhdor.messages(source, only=kind))
                 for key, column in found.items():
-                    self.assertEqual(repr(column), repr([message.times[key] if key in message.times else value for message, value in zip(messages, plain[key])]))
+                    self.assertEqual(repr(column), repr([message.times[key] if key in message.times else value
+                        for message, value in zip(messages, plain[key])]))
         self.assertEqual(gazhdor.lists(TIMES, "lap", ["start_time", 253, "timestamp"], times=True),
-            {"start_time": [utc(2021, 9, 8, 1, 46, 40), "system+77", None], 253: [utc(2021, 9, 8, 1, 46, 41), None, None], "timestamp": [utc(2021, 9, 8, 1, 46, 41), None, None]})
-        self.assertEqual(gazhdor.lists(TIMES, "activity", ["local_timestamp"], times=True), {"local_timestamp": [datetime.datetime(2021, 9, 8, 3, 46, 40)]})
+            {"start_time": [utc(2021, 9, 8, 1, 46, 40), "system+77", None],
+                253: [utc(2021, 9, 8, 1, 46, 41), None, None], "timestamp": [utc(2021, 9, 8, 1, 46, 41), None, None]})
+        self.assertEqual(gazhdor.lists(TIMES, "activity", ["local_timestamp"], times=True),
+            {"local_timestamp": [datetime.datetime(2021, 9, 8, 3, 46, 40)]})
         self.assertEqual(gazhdor.lists(TIMES, "lap", ["start_time"]), {"start_time": [1000000000, 77, None]})
         self.assertIsNone(gazhdor.when(None))
         numpy = numpy_or("numpy")
         starts = gazhdor.columns(TIMES, "lap", ["start_time"], times=True)["start_time"]
-        self.assertEqual((str(starts.dtype), str(starts[0]), numpy.isnat(starts[1:]).all()), ("datetime64[s]", "2021-09-08T01:46:40", True))
+        self.assertEqual((str(starts.dtype), str(starts[0]), numpy.isnat(starts[1:]).all()),
+            ("datetime64[s]", "2021-09-08T01:46:40", True))
         numpy_or("pandas")
-        self.assertEqual(str(gazhdor.frame(TIMES, "lap", ["start_time"], times=True)["start_time"].dtype), "datetime64[ns, UTC]")
-        self.assertEqual(str(gazhdor.frame(TIMES, "activity", ["local_timestamp"], times=True)["local_timestamp"].iloc[0]), "2021-09-08 03:46:40")
+        self.assertEqual(str(gazhdor.frame(TIMES, "lap", ["start_time"], times=True)["start_time"].dtype),
+            "datetime64[ns, UTC]")
+        self.assertEqual(str(gazhdor.frame(TIMES, "activity", ["local_timestamp"],
+            times=True)["local_timestamp"].iloc[0]), "2021-09-08 03:46:40")
 
     def test_positions(self):
         rows = [row for row in gazhdor.table(BYTES)]
@@ -178,12 +209,14 @@ class Columns(unittest.TestCase):
             self.assertAlmostEqual(row.position_lat, latitude, delta=1e-7)
             self.assertAlmostEqual(row.position_long, longitude, delta=1e-7)
         self.assertEqual(len(rows), len(found[".latitude"]))
-        found = gazhdor.lists(fit(define(0, 20, [(0, 4, SINT32), (1, 4, SINT32)]), packed("<Bii", 0, -(2**30), 2**31 - 1)), "record", [".latitude", ".longitude"])
+        found = gazhdor.lists(fit(define(0, 20, [(0, 4, SINT32), (1, 4, SINT32)]),
+            packed("<Bii", 0, -(2**30), 2**31 - 1)), "record", [".latitude", ".longitude"])
         self.assertEqual(found, {".latitude": [-90.0], ".longitude": [None]})
 
     def test_time_stays(self):
         """Where the definition has the time there is a column of it, also where no message has one."""
-        source = fit(define(0, 20, [(253, 4, UINT32), (3, 1, UINT8)]), packed("<BIB", 0, NONE4, 60), packed("<BIB", 0, NONE4, 61))
+        source = fit(define(0, 20, [(253, 4, UINT32), (3, 1, UINT8)]), packed("<BIB", 0, NONE4, 60),
+            packed("<BIB", 0, NONE4, 61))
         self.assertEqual(gazhdor.lists(source, "record"), {"timestamp": [None, None], "heart_rate": [60, 61]})
         self.assertEqual(gazhdor.lists(fit(define(0, 20, [(3, 1, UINT8)]), b"\0\x3c"), "record"), {"heart_rate": [60]})
         numpy_or("numpy")
@@ -193,12 +226,16 @@ class Columns(unittest.TestCase):
         """A developer field whose name means something else has its numbers as its key, and hides nothing."""
         names = [b".seconds", b".time", b"field_5", b"timestamp", b"dev_0_1", b".heart"]
         source = fit(DESCRIBE, *(describe(0, k, UINT8, name, b"") for k, name in enumerate(names)),
-            define(0, 20, [(253, 4, UINT32), (5, 1, UINT8), (250, 1, UINT8)], [(k, 1, 0) for k in range(len(names))]), packed("<BIBB6B", 0, 1000000000, 7, 8, *range(90, 96)))
+            define(0, 20, [(253, 4, UINT32), (5, 1, UINT8), (250, 1, UINT8)], [(k, 1, 0) for k in range(len(names))]),
+            packed("<BIBB6B", 0, 1000000000, 7, 8, *range(90, 96)))
         found = gazhdor.lists(source, "record")
-        self.assertEqual(found, {"timestamp": [utc(2021, 9, 8, 1, 46, 40)], "distance": [0.07], 250: [8], **{(0, k): [90 + k] for k in range(6)}})
-        self.assertEqual(gazhdor.lists(source, "record", [".seconds", ".time"]), {".seconds": [1000000000], ".time": found["timestamp"]})
+        self.assertEqual(found, {"timestamp": [utc(2021, 9, 8, 1, 46, 40)], "distance": [0.07], 250: [8],
+            **{(0, k): [90 + k] for k in range(6)}})
+        self.assertEqual(gazhdor.lists(source, "record", [".seconds", ".time"]),
+            {".seconds": [1000000000], ".time": found["timestamp"]})
         (message,) = gazhdor.messages(source, only="record")
-        self.assertEqual(message.as_dict(), {"timestamp": 1000000000, "distance": 0.07, "field_250": 8, **{f"dev_0_{k}": 90 + k for k in range(6)}})
+        self.assertEqual(message.as_dict(), {"timestamp": 1000000000, "distance": 0.07, "field_250": 8,
+            **{f"dev_0_{k}": 90 + k for k in range(6)}})
         for name in ("hart_rate", ".second"):
             with self.assertRaises(gazhdor.UnknownName) as caught:
                 gazhdor.lists(source, "record", [name])
@@ -208,16 +245,19 @@ class Columns(unittest.TestCase):
     def test_labels(self):
         """Labels of developer fields that differ by the case of letters alone are told apart, as databases want it."""
         numpy_or("pandas", "numpy")
-        source = fit(DESCRIBE, *(describe(0, k, UINT8, name, b"") for k, name in enumerate((b"Power", b"power", b"POWER", b"Heart_Rate", b"Own"))),
+        source = fit(DESCRIBE, *(describe(0, k, UINT8, name, b"") for k, name in enumerate((b"Power", b"power",
+            b"POWER", b"Heart_Rate", b"Own"))),
             define(0, 20, [(3, 1, UINT8)], [(k, 1, 0) for k in range(5)]), bytes([0, 60, 1, 2, 3, 4, 5]))
         table = gazhdor.frame(source, "record")
-        self.assertEqual(dict(table.iloc[0]), {"heart_rate": 60, "Power": 1, "dev_0_1": 2, "dev_0_2": 3, "dev_0_3": 4, "Own": 5})
+        self.assertEqual(dict(table.iloc[0]), {"heart_rate": 60, "Power": 1, "dev_0_1": 2, "dev_0_2": 3, "dev_0_3": 4,
+            "Own": 5})
         with contextlib.closing(sqlite3.connect(":memory:")) as base:
             table.to_sql("record", base, index=False)
             self.assertEqual(base.execute("select dev_0_1, own from record").fetchall(), [(2.0, 5.0)])
 
     def test_bounded(self):
-        """31 KB of definitions of which each has other fields, and of messages of one byte, give an error in place of a table of gigabytes."""
+        """31 KB of definitions of which each has other fields, and of messages of one byte, give an error in place of a
+        table of gigabytes."""
         definitions = [define(0, 20, [], [(n, 0, index) for n in range(255)]) for index in range(20)]
         source = fit(*(definition + 750 * b"\0" for definition in definitions))
         self.assertLess(len(source), 31500)
@@ -231,7 +271,8 @@ print(len(gazhdor.lists(data, "record", [(19, 254), 3])[3]))
 print(resource.getrusage(resource.RUSAGE_SELF).ru_maxrss)
 """
         has_numpy = importlib.util.find_spec("numpy") is not None
-        done = subprocess.run([sys.executable, "-c", program, *(["numpy"] if has_numpy else [])], input=source, stdout=subprocess.PIPE, check=True)
+        done = subprocess.run([sys.executable, "-c", program, *(["numpy"] if has_numpy else [])], input=source,
+            stdout=subprocess.PIPE, check=True)
         *told, most = done.stdout.decode().splitlines()
         self.assertEqual(told, [*(1 + has_numpy) * ["5100 15000"], "15000"])
         self.assertLess(int(most), 150000)
@@ -247,33 +288,42 @@ print(resource.getrusage(resource.RUSAGE_SELF).ru_maxrss)
         numpy_or("pandas", "numpy")
         found = gazhdor.frame(b"".join(MIXED), "record")
         self.assertEqual(str(found["timestamp"].dtype), "datetime64[ns, UTC]")
-        self.assertEqual((len(found), found["power"].max(), found["timestamp"].iloc[0].isoformat()), (87, 200.0, "2021-09-08T01:46:40+00:00"))
-        self.assertEqual((list(gazhdor.frame(BYTES, 31)), gazhdor.frame(BYTES, 999).empty), (["field_5", "field_4"], True))
+        self.assertEqual((len(found), found["power"].max(), found["timestamp"].iloc[0].isoformat()),
+            (87, 200.0, "2021-09-08T01:46:40+00:00"))
+        self.assertEqual((list(gazhdor.frame(BYTES, 31)), gazhdor.frame(BYTES, 999).empty),
+            (["field_5", "field_4"], True))
         self.assertEqual(list(gazhdor.frame(MIXED[1], 20, [3, "Strain", (0, 2)])), ["field_3", "Strain", "dev_0_2"])
 
 
 class Json(unittest.TestCase):
     def lines(self, source, status=0):
-        done = subprocess.run([sys.executable, "-m", "gazhdor", "json"], input=source, stdout=subprocess.PIPE, stderr=subprocess.PIPE)
+        done = subprocess.run([sys.executable, "-m", "gazhdor", "json"], input=source, stdout=subprocess.PIPE,
+            stderr=subprocess.PIPE)
         self.assertEqual((done.returncode, bool(done.stderr)), (status, bool(status)))
         return [json.loads(line, parse_constant=self.fail) for line in done.stdout.decode().splitlines()], done.stderr
 
     def test_ride(self):
         found, _ = self.lines(BYTES)
         self.assertEqual(len(found), len(list(gazhdor.messages(BYTES))))
-        self.assertEqual(found[1], {"message": "message_31", "number": 31, "file": 1, "place": 159, "local": 1, "time": None, "fields": {"field_5": "Lake loop", "field_4": 0}, "units": {}})
+        self.assertEqual(found[1], {"message": "message_31", "number": 31, "file": 1, "place": 159, "local": 1,
+            "time": None, "fields": {"field_5": "Lake loop", "field_4": 0}, "units": {}})
         for line, message in zip(found, gazhdor.messages(BYTES)):
-            self.assertEqual((line["place"], line["fields"], line["time"] or ""), (message.place, message.as_dict(), as_text(message.time)))
+            self.assertEqual((line["place"], line["fields"], line["time"] or ""),
+                (message.place, message.as_dict(), as_text(message.time)))
             self.assertEqual(line["units"], {label_of(field): field.unit for field in message.fields if field.unit})
-        self.assertEqual(self.lines(BYTES[:2000], 1), (found[: len(self.lines(BYTES[:2000], 1)[0])], b"-: truncated at byte 2000\n"))
+        self.assertEqual(self.lines(BYTES[:2000], 1), (found[: len(self.lines(BYTES[:2000], 1)[0])],
+            b"-: truncated at byte 2000\n"))
 
     def test_values(self):
         found, _ = self.lines(SMALL)
-        self.assertEqual((found[1]["speed"], found[1]["distance"], found[1]["fields"]), (1.0, 16.0, {"altitude": 0.0, "compressed_speed_distance": "0x640010"}))
+        self.assertEqual((found[1]["speed"], found[1]["distance"], found[1]["fields"]),
+            (1.0, 16.0, {"altitude": 0.0, "compressed_speed_distance": "0x640010"}))
         self.assertEqual((found[0]["time"], "speed" in found[0]), ("2021-09-08T01:47:11Z", False))
-        floats = fit(define(0, 65280, [(253, 4, UINT32), (0, 12, FLOAT32), (1, 2, STRING), (2, 2, BYTE)]), packed("<BIIIf", 0, 5, 0x7FC00123, 0x7F800000, 0.5) + b"\n\0\xab\x0c")
+        floats = fit(define(0, 65280, [(253, 4, UINT32), (0, 12, FLOAT32), (1, 2, STRING), (2, 2, BYTE)]),
+            packed("<BIIIf", 0, 5, 0x7FC00123, 0x7F800000, 0.5) + b"\n\0\xab\x0c")
         (line,), _ = self.lines(floats)
-        self.assertEqual(line["fields"], {"timestamp": 5, "field_0": [None, None, 0.5], "field_1": "\n", "field_2": "0xAB0C"})
+        self.assertEqual(line["fields"], {"timestamp": 5, "field_0": [None, None, 0.5], "field_1": "\n",
+            "field_2": "0xAB0C"})
         self.assertEqual(line["time"], "system+5")
 
 

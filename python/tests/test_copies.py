@@ -39,9 +39,11 @@ class BothWays(unittest.TestCase):
         r = random.Random(4)
         for _ in range(40):
             messages = list(gazhdor.messages(any_file(r)))
-            again = list(gazhdor.messages(written(*(lambda out, m=m: out.copy(m) for m in messages)))) if messages else []
+            again = list(
+                gazhdor.messages(written(*(lambda out, m=m: out.copy(m) for m in messages)))) if messages else []
             told = [[(repr(m.raw), m.developer, m.number) for m in message.fields] for message in messages]
-            self.assertEqual([[(repr(m.raw), m.developer, m.number) for m in message.fields] for message in again], told)
+            self.assertEqual([[(repr(m.raw), m.developer, m.number) for m in message.fields] for message in again],
+                told)
 
 
 def raws(message):
@@ -55,8 +57,8 @@ class Mixed(unittest.TestCase):
         return number, [field for field in fields if field[0] != 253 or field[1] is not None], message.time
 
     def test_all_at_once(self):
-        """Messages of several files, with their definition messages and without, some left out, between messages that are written from values by
-        definitions of all local message types."""
+        """Messages of several files, with their definition messages and without, some left out, between messages that
+        are written from values by definitions of all local message types."""
         r = random.Random(9)
         for _ in range(60):
             sources = [any_file(r) for _ in range(r.randrange(1, 4))]
@@ -80,7 +82,8 @@ class Mixed(unittest.TestCase):
                         out.copy(event)
                     if r.random() < 0.3:
                         if len(own) < 20 and r.random() < 0.5:
-                            own.append(out.define(5000 + len(own), [(7, "uint16")], r.choice((None, None, r.randrange(16)))))
+                            own.append(out.define(5000 + len(own), [(7, "uint16")],
+                                r.choice((None, None, r.randrange(16)))))
                         if own:
                             which = r.choice(own)
                             which.write({7: len(wanted) % 60000})

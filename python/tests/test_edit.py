@@ -1,5 +1,5 @@
-"""Whether files that are edited, joined and made by the examples are what the words ask for: by the values of the files that they are made of,
-by arithmetic, and by gpsbabel, where it is installed."""
+"""Whether files that are edited, joined and made by the examples are what the words ask for: by the values of the files
+that they are made of, by arithmetic, and by gpsbabel, where it is installed."""
 import datetime
 import os
 import random
@@ -38,7 +38,8 @@ def write(name, data):
 
 
 def told(source, but=()):
-    return [(m.name, m.time, {key: value for key, value in m.items() if key not in but}) for m in gazhdor.messages(source)]
+    return [(m.name, m.time, {key: value for key, value in m.items() if key not in but})
+        for m in gazhdor.messages(source)]
 
 
 class Edit(unittest.TestCase):
@@ -53,7 +54,8 @@ class Edit(unittest.TestCase):
         for hours in (1, -3, 1000):
             command("edit", "--shift", str(hours * HOUR), RIDE, at("out.fit"))
             for before, after in zip(gazhdor.messages(RIDE), gazhdor.messages(at("out.fit"))):
-                moved = {key: before[key] + hours * HOUR for key in ("timestamp", "start_time", "time_created", "local_timestamp") if before.get(key)}
+                moved = {key: before[key] + hours * HOUR for key in ("timestamp", "start_time", "time_created",
+                    "local_timestamp") if before.get(key)}
                 self.assertEqual(dict(after), {**dict(before), **moved})
         command("edit", "--shift", "-3600", RIDE, at("out.fit"))
         command("edit", "--shift", "3600", at("out.fit"), at("out.fit"))
@@ -62,11 +64,13 @@ class Edit(unittest.TestCase):
     def test_shift_in_headers(self):
         """Times in compressed headers move with the timestamps before them; the device's own time stays."""
         records = define(0, 20, [(253, 4, UINT32), (3, 1, UINT8)]), define(1, 20, [(3, 1, UINT8)])
-        source = fit(*records, packed("<BIB", 0, 7, 1), bytes([0xA9, 2]), packed("<BIB", 0, START, 1), *(bytes([0xA0 | START + k & 31, k]) for k in range(0, 250, 5)))
+        source = fit(*records, packed("<BIB", 0, 7, 1), bytes([0xA9, 2]), packed("<BIB", 0, START, 1),
+            *(bytes([0xA0 | START + k & 31, k]) for k in range(0, 250, 5)))
         for shift in (1, 31, 32, 86399):
             command("edit", "--shift", str(shift), write("in.fit", source), at("out.fit"))
             before, after = (list(gazhdor.messages(path)) for path in (at("in.fit"), at("out.fit")))
-            self.assertEqual([m.seconds for m in after], [m.seconds + (shift if m.seconds > 100 else 0) for m in before])
+            self.assertEqual([m.seconds for m in after], [m.seconds + (shift if m.seconds > 100 else 0)
+                for m in before])
             self.assertEqual([m["heart_rate"] for m in after], [m["heart_rate"] for m in before])
 
     def test_too_far(self):
@@ -80,9 +84,12 @@ class Edit(unittest.TestCase):
         rows = [row._replace(position_lat=None, position_long=None, speed=None) for row in gazhdor.table(RIDE)]
         self.assertEqual(list(gazhdor.table(at("out.fit"))), rows)
         (lap,), (old,) = (list(gazhdor.messages(path, only="lap")) for path in (at("out.fit"), RIDE))
-        self.assertEqual((lap["total_distance"], lap.position, lap["total_elapsed_time"]), (None, None, old["total_elapsed_time"]))
+        self.assertEqual((lap["total_distance"], lap.position, lap["total_elapsed_time"]),
+            (None, None, old["total_elapsed_time"]))
         self.assertIn(f"emptied: record speed, {len(rows)} times\n", done.stderr)
-        places = fit(DESCRIBE, describe(0, 0, SINT32, b"spot", b""), define(0, 65280, [(9, 8, SINT32), (11, 4, 5), (9, 4, SINT32)], [(0, 4, 0)], big=True), b"\0" + bytes(range(100, 120)))
+        places = fit(DESCRIBE, describe(0, 0, SINT32, b"spot", b""),
+            define(0, 65280, [(9, 8, SINT32), (11, 4, 5), (9, 4, SINT32)], [(0, 4, 0)], big=True),
+            b"\0" + bytes(range(100, 120)))
         command("edit", "--drop", "position", write("in.fit", places), at("out.fit"))
         *_, m = gazhdor.messages(at("out.fit"))
         self.assertEqual([field.value for field in m.fields], [(None, None), None, None, None])
@@ -96,7 +103,8 @@ class Edit(unittest.TestCase):
         self.assertEqual(found, [row._replace(timestamp=row.timestamp + datetime.timedelta(0, 60)) for row in wanted])
         (lap,), (session,), (activity,) = (list(gazhdor.messages(at("out.fit"), only=name)) for name in SUMMARIES)
         for whole in (lap, session):
-            self.assertEqual((whole["start_time"], whole["timestamp"], whole["total_elapsed_time"], whole["total_timer_time"]), (begin + 60, end + 60, 300.0, 300.0))
+            self.assertEqual((whole["start_time"], whole["timestamp"], whole["total_elapsed_time"],
+                whole["total_timer_time"]), (begin + 60, end + 60, 300.0, 300.0))
             self.assertAlmostEqual(whole["total_distance"], wanted[-1].distance - wanted[0].distance, 2)
             self.assertEqual(whole["max_speed"], max(row.speed for row in wanted))
             self.assertAlmostEqual(whole.position.latitude, wanted[0].position_lat, 6)
@@ -128,7 +136,8 @@ class Edit(unittest.TestCase):
         self.assertEqual(bytes_at(at("--out.fit")), BYTES)
         words = [sys.executable, "-m", "gazhdor", "edit", "-", "-"]
         self.assertEqual(subprocess.run(words, input=BYTES, stdout=subprocess.PIPE).stdout, BYTES)
-        done = subprocess.run([*words, "--shift", "7"], input=bytes_at(bad), stdout=subprocess.PIPE, stderr=subprocess.PIPE)
+        done = subprocess.run([*words, "--shift", "7"], input=bytes_at(bad), stdout=subprocess.PIPE,
+            stderr=subprocess.PIPE)
         self.assertEqual((done.returncode, done.stdout), (1, b""))
         with open(at("full"), "wb") as full:
             self.assertEqual(subprocess.run([*words[:-2], RIDE, "/dev/full"], stderr=full).returncode, 4)
@@ -149,27 +158,35 @@ class Join(unittest.TestCase):
         whole = first[-1].distance
         self.assertEqual(len(both), len(first) + len(second))
         self.assertEqual(both[: len(first)], first)
-        self.assertEqual([round(row.distance, 2) for row in both[len(first) :]], [round(row.distance + whole, 2) for row in second])
-        laps, (session,), (file_id,) = (list(gazhdor.messages(at("out.fit"), only=name)) for name in ("lap", "session", "file_id"))
+        self.assertEqual([round(row.distance, 2) for row in both[len(first) :]],
+            [round(row.distance + whole, 2) for row in second])
+        laps, (session,), (file_id,) = (list(gazhdor.messages(at("out.fit"), only=name))
+            for name in ("lap", "session", "file_id"))
         (old,) = gazhdor.messages(RIDE, only="file_id")
         self.assertEqual(dict(file_id), dict(old))
         self.assertEqual([lap["start_time"] for lap in laps], [START, START + 86400])
         ran = sum(lap["total_timer_time"] for lap in laps)
-        self.assertEqual((session["num_laps"], session["total_timer_time"], session["total_elapsed_time"]), (2, ran, 86400.0 + laps[1]["total_elapsed_time"]))
+        self.assertEqual((session["num_laps"], session["total_timer_time"], session["total_elapsed_time"]),
+            (2, ran, 86400.0 + laps[1]["total_elapsed_time"]))
         self.assertAlmostEqual(session["total_distance"], 2 * whole, 1)
 
     def test_numbers(self):
         """Means and maxima, a pause, and what no record has, by arithmetic."""
         record = define(0, 20, [(253, 4, UINT32), (3, 1, UINT8), (7, 2, UINT16), (5, 4, UINT32)])
         event = define(1, 21, [(253, 4, UINT32), (0, 1, 0), (1, 1, 0)])
-        one = fit(define(2, 12, [(0, 1, 0)]), b"\2\x02", event, packed("<BIBB", 1, START, 0, 0), record, packed("<BIBHI", 0, START, 100, 200, 0), packed("<BIBHI", 0, START + 10, 121, 65535, 5000),
-                  packed("<BIBB", 1, START + 10, 0, 4), packed("<BIBB", 1, START + 70, 0, 0), packed("<BIBHI", 0, START + 80, 255, 301, 12000), packed("<BIBB", 1, START + 80, 0, 4))
-        two = fit(event, packed("<BIBB", 1, START + 100, 0, 0), record, packed("<BIBHI", 0, START + 100, 90, 65535, 0), packed("<BIBHI", 0, START + 130, 92, 65535, 3000), packed("<BIBB", 1, START + 130, 0, 4))
+        one = fit(define(2, 12, [(0, 1, 0)]), b"\2\x02", event, packed("<BIBB", 1, START, 0, 0), record,
+            packed("<BIBHI", 0, START, 100, 200, 0), packed("<BIBHI", 0, START + 10, 121, 65535, 5000),
+                  packed("<BIBB", 1, START + 10, 0, 4), packed("<BIBB", 1, START + 70, 0, 0),
+                  packed("<BIBHI", 0, START + 80, 255, 301, 12000), packed("<BIBB", 1, START + 80, 0, 4))
+        two = fit(event, packed("<BIBB", 1, START + 100, 0, 0), record, packed("<BIBHI", 0, START + 100, 90, 65535, 0),
+            packed("<BIBHI", 0, START + 130, 92, 65535, 3000), packed("<BIBB", 1, START + 130, 0, 4))
         command("join", "--one", write("one.fit", one), write("two.fit", two), at("out.fit"))
         laps, (session,) = (list(gazhdor.messages(at("out.fit"), only=name)) for name in ("lap", "session"))
-        self.assertEqual([(lap["total_timer_time"], lap["avg_heart_rate"], lap["max_heart_rate"], lap["total_distance"], lap.get("max_power")) for lap in laps],
+        self.assertEqual([(lap["total_timer_time"], lap["avg_heart_rate"], lap["max_heart_rate"], lap["total_distance"],
+            lap.get("max_power")) for lap in laps],
                          [(20.0, 111, 121, 120.0, 301), (30.0, 91, 92, 30.0, None)])
-        self.assertEqual((session["total_timer_time"], session["total_distance"], session["avg_heart_rate"], session["avg_power"], session["sport"]), (50.0, 150.0, 101, 251, 2))
+        self.assertEqual((session["total_timer_time"], session["total_distance"], session["avg_heart_rate"],
+            session["avg_power"], session["sport"]), (50.0, 150.0, 101, 251, 2))
         self.assertEqual((session["avg_speed"], session["total_elapsed_time"]), (3.0, 130.0))
 
 
@@ -179,7 +196,8 @@ class Examples(unittest.TestCase):
         cls.made = run(example("gpx_to_fit.py"), in_tree("examples/ride.gpx"), at("gpx.fit"), encoding="utf-8")
 
     def test_gpx(self):
-        """The ride is what another program made of the same track; it cuts altitudes to fifths of a metre, and these are the nearest."""
+        """The ride is what another program made of the same track; it cuts altitudes to fifths of a metre, and these
+        are the nearest."""
         self.assertEqual((self.made.returncode, self.made.stderr), (0, ""))
         wanted = [row for row in gazhdor.table(RIDE)]
         found = list(gazhdor.table(at("gpx.fit")))
@@ -195,14 +213,17 @@ class Examples(unittest.TestCase):
         times = [START + k for k in range(0, 700, 3)]
         with gazhdor.Writer(at("strap.fit")) as out:
             out.write("file_id", type=4)
-            out.define("record", "timestamp heart_rate").columns(timestamp=times, heart_rate=[100 + k % 50 for k in range(len(times))])
+            out.define("record", "timestamp heart_rate").columns(timestamp=times,
+                heart_rate=[100 + k % 50 for k in range(len(times))])
         rates = dict(zip(times, (100 + k % 50 for k in range(len(times)))))
         for ride in (RIDE, at("gpx.fit")):
             done = run(example("merge_heart_rates.py"), ride, at("strap.fit"), at("merged.fit"), "1", encoding="utf-8")
             self.assertEqual((done.returncode, done.stderr), (0, ""))
             for before, after in zip(gazhdor.messages(ride), gazhdor.messages(at("merged.fit"))):
-                near = [rate for time, rate in rates.items() if before.seconds is not None and abs(time - before.seconds) <= 1]
-                wanted = {**dict(before), **({"heart_rate": near[0] if near else None} if before.name == "record" else {})}
+                near = [rate for time, rate in rates.items() if before.seconds is not None
+                    and abs(time - before.seconds) <= 1]
+                wanted = {**dict(before), **({"heart_rate": near[0] if near else None} if before.name == "record"
+                    else {})}
                 self.assertEqual(dict(after), wanted)
 
     def test_gpsbabel(self):
@@ -212,9 +233,11 @@ class Examples(unittest.TestCase):
         command("edit", "--shift", "3600", RIDE, at("later.fit"))
         command("join", "--one", RIDE, at("later.fit"), at("both.fit"))
         for name, source in (("gpx.fit", at("gpx.fit")), ("later.fit", at("later.fit")), ("both.fit", at("both.fit"))):
-            said = subprocess.run(["gpsbabel", "-i", "garmin_fit", "-f", source, "-o", "gpx", "-F", "-"], stdout=subprocess.PIPE, stderr=subprocess.PIPE, encoding="utf-8")
+            said = subprocess.run(["gpsbabel", "-i", "garmin_fit", "-f", source, "-o", "gpx", "-F", "-"],
+                stdout=subprocess.PIPE, stderr=subprocess.PIPE, encoding="utf-8")
             self.assertEqual((said.returncode, said.stderr), (0, ""), name)
-            points = re.findall(r'<trkpt lat="([-.\d]+)" lon="([-.\d]+)">\s*<ele>([-.\d]+)</ele>\s*<time>([^<]+)Z</time>', said.stdout)
+            points = re.findall(
+                r'<trkpt lat="([-.\d]+)" lon="([-.\d]+)">\s*<ele>([-.\d]+)</ele>\s*<time>([^<]+)Z</time>', said.stdout)
             rows = list(gazhdor.table(source))
             self.assertEqual(len(points), len(rows), name)
             for (lat, long, altitude, time), row in zip(points, rows):

@@ -1,5 +1,5 @@
-"""What the module gazhdor says of floating point numbers: a float32 as speed and a float64 as altitude stand for themselves, in both byte
-orders, where whole numbers are scaled by the profile."""
+"""What the module gazhdor says of floating point numbers: a float32 as speed and a float64 as altitude stand for
+themselves, in both byte orders, where whole numbers are scaled by the profile."""
 import struct
 import unittest
 

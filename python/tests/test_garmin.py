@@ -1,6 +1,7 @@
-"""Whether the messages of the module gazhdor are those that another program reads: the module Garmin::FIT for Perl, which Debian's pytrainer
-has. It is asked for each message and field of the ride, and of recordings that bench/recording.c makes: numbers, names, items, and values
-where its profile has a scale. And what the names of gazhdor.EXTRA say is compared with its profile, which is an older one."""
+"""Whether the messages of the module gazhdor are those that another program reads: the module Garmin::FIT for Perl,
+which Debian's pytrainer has. It is asked for each message and field of the ride, and of recordings that
+bench/recording.c makes: numbers, names, items, and values where its profile has a scale. And what the names of
+gazhdor.EXTRA say is compared with its profile, which is an older one."""
 import math
 import os
 import re
@@ -41,8 +42,10 @@ def told(path):
 
 
 def developer_name(name):
-    """The name of a developer field as Garmin::FIT spells it: one underscore for blanks, and the code of each other character."""
-    return re.sub(r"[^\w ]", lambda other: f"_{ord(other[0]):02x}_", re.sub(r"\s+", " ", name), flags=re.A).replace(" ", "_")
+    """The name of a developer field as Garmin::FIT spells it: one underscore for blanks, and the code of each other
+    character."""
+    return re.sub(r"[^\w ]", lambda other: f"_{ord(other[0]):02x}_", re.sub(r"\s+", " ", name), flags=re.A).replace(" ",
+        "_")
 
 
 def items_of(field, kind):
@@ -69,7 +72,8 @@ class Garmin(unittest.TestCase):
             values = field.value if isinstance(field.value, tuple) else (field.value,)
             for value, item in zip(values, numbers):
                 if value is not None:
-                    self.assertTrue(math.isclose(value, item / float(scale or 1) - float(offset or 0), rel_tol=1e-12, abs_tol=1e-9), (field.name, value, item))
+                    self.assertTrue(math.isclose(value, item / float(scale or 1) - float(offset or 0), rel_tol=1e-12,
+                        abs_tol=1e-9), (field.name, value, item))
                     self.scaled += 1
 
     def compare(self, path):
@@ -112,12 +116,15 @@ class Garmin(unittest.TestCase):
             power = out.describe("Form power", "watts", "uint16")
             record = out.define("record", ["timestamp", "position_lat", "altitude", "heart_rate", "distance", power])
             for k in range(300):
-                record.write({"timestamp": 1147937400 + k, "position_lat": k / 7, "altitude": k / 3, "heart_rate": k % 254, "distance": k * 3.3, power: 2 * k})
-            columns = {"timestamp": [1147937700 + k for k in range(300)], "altitude": [k / 3 for k in range(300)], "distance": [k * 7.7 for k in range(300)]}
+                record.write({"timestamp": 1147937400 + k, "position_lat": k / 7, "altitude": k / 3,
+                    "heart_rate": k % 254, "distance": k * 3.3, power: 2 * k})
+            columns = {"timestamp": [1147937700 + k for k in range(300)], "altitude": [k / 3 for k in range(300)],
+                "distance": [k * 7.7 for k in range(300)]}
             out.define("record", list(columns), big=True).columns(columns)
             out.write("sport", name="Kaltern am See", sport=2)
             out.write("hrv", time=(0.5, 0.625, 0.75))
-            out.write("session", timestamp=1147938000, start_time=1147937400, total_elapsed_time=600.5, total_distance=2310.25, avg_speed=3.85)
+            out.write("session", timestamp=1147938000, start_time=1147937400, total_elapsed_time=600.5,
+                total_distance=2310.25, avg_speed=3.85)
         self.assertEqual(self.compare(path), (604, 2 * 300 + 2 * 300 + 3 + 3))
 
     def test_edited(self):
@@ -145,8 +152,10 @@ class Types(unittest.TestCase):
         self.assertGreater(compared, 90)
 
 
-CODES = {"enum": 0, "sint8": 1, "uint8": 2, "sint16": 0x83, "uint16": 0x84, "sint32": 0x85, "uint32": 0x86, "string": 7, "float32": 0x88, "float64": 0x89}
-CODES.update({"uint8z": 10, "uint16z": 0x8B, "uint32z": 0x8C, "byte": 13, "sint64": 0x8E, "uint64": 0x8F, "uint64z": 0x90})
+CODES = {"enum": 0, "sint8": 1, "uint8": 2, "sint16": 0x83, "uint16": 0x84, "sint32": 0x85, "uint32": 0x86, "string": 7,
+    "float32": 0x88, "float64": 0x89}
+CODES.update({"uint8z": 10, "uint16z": 0x8B, "uint32z": 0x8C, "byte": 13, "sint64": 0x8E, "uint64": 0x8F,
+    "uint64z": 0x90})
 
 
 # Of units Garmin::FIT writes some in its own way, and it has units of some fields to which Garmin's profile gives none.
@@ -167,8 +176,10 @@ class Extra(unittest.TestCase):
             of = gazhdor.EXTRA.message(place[0])
             self.assertEqual((named.name, of or message_name), (name, message_name), place)
             if place not in PACKED:
-                self.assertEqual((float(named.scale or 1), float(named.offset or 0)), (float(scale or 1), float(offset or 0)), (place, name))
-                self.assertTrue((named.unit or "") == unit or (named.unit or "", unit) in SPELLINGS or place in ITS_OWN, (place, name, named.unit, unit))
+                self.assertEqual((float(named.scale or 1), float(named.offset or 0)),
+                    (float(scale or 1), float(offset or 0)), (place, name))
+                self.assertTrue((named.unit or "") == unit or (named.unit or "", unit) in SPELLINGS or place in ITS_OWN,
+                    (place, name, named.unit, unit))
             compared += 1
         self.assertGreater(compared, 350)
 

@@ -1,5 +1,5 @@
-"""What the module gazhdor must do where something comes between: an exception at any place of a call, a call within a call, a new process; and of
-bytes that lie about their length, and texts that are longer than a C int counts."""
+"""What the module gazhdor must do where something comes between: an exception at any place of a call, a call within a
+call, a new process; and of bytes that lie about their length, and texts that are longer than a C int counts."""
 import ctypes
 import io
 import mmap
@@ -32,7 +32,8 @@ class Between(Exception):
 
 # Definitions that change the places of values: a heart rate stands where a cadence stood, in messages of one length.
 CHANGES = fit(
-    *(define(0, 20, [(number, 1, UINT8) for number in order]) + b"".join(bytes([0, *(10 * number + k for number in order)]) for k in range(3))
+    *(define(0, 20, [(number, 1, UINT8) for number in order]) + b"".join(bytes([0,
+        *(10 * number + k for number in order)]) for k in range(3))
     for order in 10 * ((3, 4, 13), (4, 13, 3), (13, 3, 4)))
 )
 PIECES = [CHANGES[at : at + 7] for at in range(0, len(CHANGES), 7)]
@@ -46,7 +47,8 @@ WANTED = told(gazhdor.messages(CHANGES))
 
 
 class Feeding:
-    """Feeds the pieces, each once more where an exception from elsewhere leaves the call, and sees that nothing else is wrong."""
+    """Feeds the pieces, each once more where an exception from elsewhere leaves the call, and sees that nothing else is
+    wrong."""
 
     def __init__(self, case):
         self.case, self.interrupts, self.broken, self.is_in_call = case, 0, 0, False
@@ -81,7 +83,8 @@ class Feeding:
 
 class Interrupts(unittest.TestCase):
     def test_at_any_time(self):
-        """A signal handler raises at random, in 3,000 feeds and more: no message is lost but where the stream says so, and no value is wrong."""
+        """A signal handler raises at random, in 3,000 feeds and more: no message is lost but where the stream says so,
+        and no value is wrong."""
         r, feeding, feeds = random.Random(20260129), Feeding(self), 0
 
         def handler(*_):
@@ -155,11 +158,13 @@ class Interrupts(unittest.TestCase):
     def test_blocks_that_are_lost(self):
         """A message isn't read by a definition that isn't its own, nor where its definition is lost."""
         with gazhdor.Stream("blocks") as stream:
-            parts = [stream.feed(CHANGES[:at]) if at == 24 else stream.feed(CHANGES[at - 1 : at]) for at in range(24, len(CHANGES) + 1)]
+            parts = [stream.feed(CHANGES[:at]) if at == 24 else stream.feed(CHANGES[at - 1 : at])
+                for at in range(24, len(CHANGES) + 1)]
         for lost in range(len(parts)):
             walk = Walk()
             try:
-                found = told(message for k, part in enumerate(parts) if k != lost for message in messages_of(part, walk.runs(part)))
+                found = told(message for k, part in enumerate(parts) if k != lost
+                    for message in messages_of(part, walk.runs(part)))
             except gazhdor.StreamBroken:
                 found = []
             self.assertEqual([one for one in found if one not in WANTED], [])
@@ -176,7 +181,8 @@ def now():
     with open("/proc/self/status") as file:
         return 1024 * int(re.search(r"VmRSS:\\s*(\\d+) kB", file.read()).group(1))
 def interrupted():
-    for call in (gazhdor.to_csv, lambda data: list(gazhdor.messages(data)), lambda data: gazhdor.Stream("to_csv").feed(data)):
+    in_pieces = lambda data: gazhdor.Stream("to_csv").feed(data)
+    for call in (gazhdor.to_csv, lambda data: list(gazhdor.messages(data)), in_pieces):
         try:
             signal.setitimer(signal.ITIMER_REAL, 0.005)
             call(data)
@@ -211,7 +217,8 @@ def meanwhile(call):
         return real(*given)
     library.gazhdor_feed = feed
 """
-        with subprocess.Popen([sys.executable, "-c", head + program], stdout=subprocess.PIPE, start_new_session=True) as started:
+        with subprocess.Popen([sys.executable, "-c", head + program], stdout=subprocess.PIPE,
+                start_new_session=True) as started:
             try:
                 said, _ = started.communicate(timeout=20)
             except subprocess.TimeoutExpired:
@@ -220,7 +227,8 @@ def meanwhile(call):
         self.assertEqual((started.returncode, said), (0, b"good\n"))
 
     def test_signal(self):
-        """A handler that closes, feeds or ends the stream that the same thread is feeding gets an error, and so does who is fed."""
+        """A handler that closes, feeds or ends the stream that the same thread is feeding gets an error, and so does
+        who is fed."""
         self.run_program("""
 for call in (lambda: stream.close(), lambda: stream.finish(), lambda: stream.feed(b"")):
     stream = gazhdor.Stream("table")
@@ -273,7 +281,8 @@ print("good")
 """)
 
     def test_fork(self):
-        """In a new process a stream goes on; where another thread was feeding it, it is broken there, and closed by nobody."""
+        """In a new process a stream goes on; where another thread was feeding it, it is broken there, and closed by
+        nobody."""
         self.run_program("""
 def in_child(work):
     child = os.fork()
@@ -334,12 +343,15 @@ class Lengths(unittest.TestCase):
     def test_read_failed(self):
         """How many bytes came before, where they are items of four bytes each."""
         with self.assertRaises(gazhdor.ReadFailed) as caught:
-            gazhdor.check(Returns([memoryview(BYTES[:2000]).cast("I"), memoryview(BYTES[2000:2400]).cast("H"), OSError("broken")]))
-        self.assertEqual((caught.exception.count, str(caught.exception)), (2400, "the read failed after 2400 bytes: broken"))
+            gazhdor.check(Returns([memoryview(BYTES[:2000]).cast("I"), memoryview(BYTES[2000:2400]).cast("H"),
+                OSError("broken")]))
+        self.assertEqual((caught.exception.count, str(caught.exception)),
+            (2400, "the read failed after 2400 bytes: broken"))
         self.assertEqual(str(gazhdor.check(Returns([memoryview(BYTES[:2000]).cast("I"), BYTES[2000:]]))), "ok")
 
     def test_long_texts(self):
-        """A piece that gives more than 2 GiB, and more than 4 GiB, of which nothing is cut. A library that isn't one hands out zeros."""
+        """A piece that gives more than 2 GiB, and more than 4 GiB, of which nothing is cut. A library that isn't one
+        hands out zeros."""
         with open("/proc/meminfo") as file:
             free = 1024 * int(re.search(r"MemAvailable:\s*(\d+) kB", file.read()).group(1))
         for length in (2**31 + 5, 2**32 + 5):

@@ -1,4 +1,5 @@
-"""What the wheel of gazhdor must have and do, how the module finds its library, its types, and the example that dask runs."""
+"""What the wheel of gazhdor must have and do, how the module finds its library, its types, and the example that dask
+runs."""
 import base64
 import csv
 import hashlib
@@ -29,7 +30,8 @@ SONAME = ".".join(VERSION.split(".")[:2])
 
 def variables(**more):
     """The variables of the shell, by which no other library is found than the one that a test lays down."""
-    return {**{name: value for name, value in os.environ.items() if name not in ("GAZHDOR_LIBRARY", "PYTHONPATH")}, **more}
+    return {**{name: value for name, value in os.environ.items() if name not in ("GAZHDOR_LIBRARY", "PYTHONPATH")},
+        **more}
 
 
 def run(*words, python=sys.executable, **how):
@@ -53,7 +55,8 @@ def wheel_in(folder):
 
 def imported(place, program="import gazhdor", **more):
     """What a new Python with nothing but a folder or a zip file of modules does, elsewhere."""
-    return run("-W", "error", "-c", program, cwd="/", env=dict(more, PYTHONPATH=place, PYTHONDONTWRITEBYTECODE="1", TMPDIR=WORK))
+    return run("-W", "error", "-c", program, cwd="/", env=dict(more, PYTHONPATH=place, PYTHONDONTWRITEBYTECODE="1",
+        TMPDIR=WORK))
 
 
 USE = f"import gazhdor; print(gazhdor.__version__, gazhdor.check({RIDE!r}), gazhdor.__file__)"
@@ -77,12 +80,14 @@ class Wheel(unittest.TestCase):
         wanted.update({"gazhdor/VERSION": "VERSION", "gazhdor/libgazhdor.so": LIBRARY, f"{about}/LICENSE": "LICENSE"})
         for name, path in wanted.items():
             self.assertEqual(files[name], bytes_at(in_tree(path)))
-        self.assertEqual(sorted(files), sorted([*wanted, *(f"{about}/{name}" for name in ("METADATA", "WHEEL", "RECORD"))]))
+        self.assertEqual(sorted(files), sorted([*wanted, *(f"{about}/{name}" for name in ("METADATA", "WHEEL",
+            "RECORD"))]))
         record = list(csv.reader(io.StringIO(files[f"{about}/RECORD"].decode())))
         self.assertEqual([row[0] for row in record], list(files))
         for name, told, length in record[:-1]:
             digest = hashlib.sha256(files[name]).digest()
-            self.assertEqual((told, length), ("sha256=" + base64.urlsafe_b64encode(digest).decode().rstrip("="), str(len(files[name]))))
+            self.assertEqual((told, length), ("sha256=" + base64.urlsafe_b64encode(digest).decode().rstrip("="),
+                str(len(files[name]))))
         self.assertEqual(record[-1], [f"{about}/RECORD", "", ""])
 
     def test_tag(self):
@@ -90,7 +95,8 @@ class Wheel(unittest.TestCase):
         tag = re.search(rf"-py3-none-manylinux_2_(\d+)_{platform.machine()}\.whl$", self.wheel)
         with zipfile.ZipFile(self.wheel) as wheel:
             told = wheel.read(f"gazhdor-{VERSION}.dist-info/WHEEL").decode()
-        self.assertEqual(told.splitlines()[2:], ["Root-Is-Purelib: false", f"Tag: py3-none-manylinux_2_{tag.group(1)}_{platform.machine()}"])
+        self.assertEqual(told.splitlines()[2:],
+            ["Root-Is-Purelib: false", f"Tag: py3-none-manylinux_2_{tag.group(1)}_{platform.machine()}"])
         has(shutil.which("objdump"), "objdump, so the tag isn't compared with what the library needs")
         said = subprocess.run(["objdump", "-T", in_tree(LIBRARY)], stdout=subprocess.PIPE, check=True).stdout.decode()
         needed = [tuple(map(int, number.split("."))) for number in re.findall(r"\(?GLIBC_([\d.]+)\)?", said)]
@@ -98,7 +104,8 @@ class Wheel(unittest.TestCase):
         self.assertEqual(int(tag.group(1)), max(17, max(needed)[1]))
 
     def test_zip(self):
-        """The wheel as it is, by a name that Python and dask take for a zip file of modules. Nothing of it stays elsewhere."""
+        """The wheel as it is, by a name that Python and dask take for a zip file of modules. Nothing of it stays
+        elsewhere."""
         there = shutil.copy(self.wheel, os.path.join(WORK, "gazhdor.zip"))
         before = os.listdir(WORK)
         done = imported(there, USE)
@@ -111,7 +118,8 @@ class Wheel(unittest.TestCase):
         listed = []
         for source in (PYTHON, self.wheel):
             to = os.path.join(WORK, f"to {len(listed)}")
-            done = run("-m", "pip", "install", "--no-index", "--no-compile", "--disable-pip-version-check", "--target", to, source)
+            done = run("-m", "pip", "install", "--no-index", "--no-compile", "--disable-pip-version-check", "--target",
+                to, source)
             self.assertEqual(done.returncode, 0, done.stderr.decode())
             done = imported(to, USE)
             self.assertEqual((done.stdout.decode(), done.stderr), (f"{VERSION} ok {to}/gazhdor/__init__.py\n", b""))
@@ -124,10 +132,12 @@ class Wheel(unittest.TestCase):
 
     def test_machines(self):
         """A wheel for the processor that is named, of those that there are; and none of a library that is damaged."""
-        backend = importlib.util.module_from_spec(importlib.util.spec_from_file_location("backend", os.path.join(PYTHON, "backend.py")))
+        backend = importlib.util.module_from_spec(importlib.util.spec_from_file_location("backend",
+            os.path.join(PYTHON, "backend.py")))
         backend.__spec__.loader.exec_module(backend)
         self.assertEqual(backend.build_wheel(WORK, {"processor": platform.machine()}), os.path.basename(self.wheel))
-        with self.assertRaisesRegex(RuntimeError, "libraries for x86_64 Linux and for aarch64 Linux, and none for riscv64 Linux"):
+        with self.assertRaisesRegex(RuntimeError,
+                "libraries for x86_64 Linux and for aarch64 Linux, and none for riscv64 Linux"):
             backend.build_wheel(WORK, {"processor": "riscv64"})
         backend.TREE = os.path.join(WORK, "damaged")
         os.makedirs(os.path.join(backend.TREE, "release", MACHINE))
@@ -148,7 +158,9 @@ class Wheel(unittest.TestCase):
         shutil.copytree(PYTHON, part)
         done = run("-c", "import backend; backend.build_wheel('.')", cwd=part)
         self.assertEqual(done.returncode, 1)
-        self.assertIn(f"{os.path.join(WORK, 'VERSION')} isn't there: the wheel is made where the whole tree is".encode(), done.stderr)
+        self.assertIn(
+            f"{os.path.join(WORK, 'VERSION')} isn't there: the wheel is made where the whole tree is".encode(),
+            done.stderr)
 
 
 class Library(unittest.TestCase):
@@ -218,7 +230,8 @@ except ImportError as error:
         self.refused("LibraryMissing", none, f"{none} isn't there, which GAZHDOR_LIBRARY names", GAZHDOR_LIBRARY=none)
         os.rename(self.library, none + ".away")
         try:
-            what = f"{self.library} isn't there, and the system has no libgazhdor.so.{SONAME}: install the wheel, or set GAZHDOR_LIBRARY"
+            what = f"{self.library} isn't there, and the system has no libgazhdor.so.{SONAME}: "
+            what += "install the wheel, or set GAZHDOR_LIBRARY"
             self.refused("LibraryMissing", self.library, what)
         finally:
             os.rename(none + ".away", self.library)
@@ -228,29 +241,45 @@ except ImportError as error:
         self.refused("LibraryUnusable", text, f"{text} can't be loaded: {text}: file too short", GAZHDOR_LIBRARY=text)
         with open("/proc/self/maps") as maps:
             another = next(line.split()[-1] for line in maps if re.search(r"/libc[.-]", line))
-        self.refused("LibraryUnusable", another, f"{another} isn't a library of gazhdor {VERSION}: ", GAZHDOR_LIBRARY=another)
+        self.refused("LibraryUnusable", another, f"{another} isn't a library of gazhdor {VERSION}: ",
+            GAZHDOR_LIBRARY=another)
 
     def test_version(self):
         """A library whose own version is that of a release that never was."""
         self.assertIn(b"\0" + VERSION.encode() + b"\0", self.bytes)
         other = "9" + VERSION[1:]
-        older = self.written("older.so", self.bytes.replace(b"\0" + VERSION.encode() + b"\0", b"\0" + other.encode() + b"\0"))
-        self.refused("WrongVersion", older, f"{older} is version {other}, and the module gazhdor is version {VERSION}", GAZHDOR_LIBRARY=older)
+        older = self.written("older.so", self.bytes.replace(b"\0" + VERSION.encode() + b"\0",
+            b"\0" + other.encode() + b"\0"))
+        self.refused("WrongVersion", older, f"{older} is version {other}, and the module gazhdor is version {VERSION}",
+            GAZHDOR_LIBRARY=older)
 
     def test_older(self):
         """A library of this version that was made before one of the calls: `import gazhdor` says which it lacks."""
         for call in (b"gazhdor_open", b"gazhdor_feed", b"gazhdor_finish", b"gazhdor_close", b"gazhdor_from_messages"):
-            older = self.written(f"{call.decode()}.so", self.bytes.replace(b"\0" + call + b"\0", b"\0" + call[:-1] + b"0\0"))
-            self.refused("LibraryUnusable", older, f"{older} isn't a library of gazhdor {VERSION}: ", GAZHDOR_LIBRARY=older)
+            older = self.written(f"{call.decode()}.so", self.bytes.replace(b"\0" + call + b"\0",
+                b"\0" + call[:-1] + b"0\0"))
+            self.refused("LibraryUnusable", older, f"{older} isn't a library of gazhdor {VERSION}: ",
+                GAZHDOR_LIBRARY=older)
 
     def test_machine(self):
         """A module that was unpacked on another machine than pip would allow."""
-        for name, value, machine in (("machine", "riscv64", "riscv64 Linux"), ("system", "Darwin", f"{platform.machine()} Darwin")):
+        for name, value, machine in (("machine", "riscv64", "riscv64 Linux"),
+                ("system", "Darwin", f"{platform.machine()} Darwin")):
             before = f"import platform\nplatform.{name} = lambda: {value!r}\n"
-            self.refused("WrongMachine", None, f"this is 64-bit Python on {machine}", before)
+            self.beside_refused(b"no library", "WrongMachine", f"this is 64-bit Python on {machine}: pip install, of the folder", before)
         # The library itself for another processor, number 243.
         other = self.written("riscv.so", self.bytes[:18] + (243).to_bytes(2, "little") + self.bytes[20:])
         self.refused("LibraryUnusable", other, f"{other} can't be loaded: ", GAZHDOR_LIBRARY=other)
+
+    def beside_refused(self, library, kind, what, before):
+        """What is said where such a library stands beside the module."""
+        with open(self.library, "wb") as file:
+            file.write(library)
+        try:
+            self.refused(kind, None, what, before)
+        finally:
+            with open(self.library, "wb") as file:
+                file.write(self.bytes)
 
     def test_shell(self):
         done = run("-m", "gazhdor", "check", RIDE, env=variables(PYTHONPATH=PYTHON, GAZHDOR_LIBRARY="none.so"))
@@ -269,7 +298,8 @@ class Types(unittest.TestCase):
         words = ["mypy", "--strict", "--cache-dir", os.path.join(WORK, "types"), MODULE, program]
         done = subprocess.run(words, stdout=subprocess.PIPE)
         said = [line for line in done.stdout.decode().splitlines() if ": error:" in line]
-        self.assertEqual([line.split(":")[:2] for line in said], [[program, str(lines + number)] for number in range(1, len(WRONG) + 1)])
+        self.assertEqual([line.split(":")[:2] for line in said],
+            [[program, str(lines + number)] for number in range(1, len(WRONG) + 1)])
 
 
 class Dask(unittest.TestCase):
@@ -277,7 +307,8 @@ class Dask(unittest.TestCase):
         log = open(os.path.join(WORK, "dask.log"), "ab")
         self.addCleanup(log.close)
         # Its pages, which are asked for nothing, would else be there for all the world.
-        alone = ["--host", "127.0.0.1", "--dashboard-address", "127.0.0.1:0", "--no-dashboard", "--scheduler-file", self.scheduler]
+        alone = ["--host", "127.0.0.1", "--dashboard-address", "127.0.0.1:0", "--no-dashboard", "--scheduler-file",
+            self.scheduler]
         words = [self.python, "-m", "dask", kind, *alone, *words]
         started = subprocess.Popen(words, cwd=WORK, env=variables(), stdout=log, stderr=log)
         self.addCleanup(self.end, started)
@@ -303,7 +334,8 @@ class Dask(unittest.TestCase):
     def rides(self, count, minutes):
         """Rides in a folder, each with the figures that its text has, before a file is made of it."""
         folder = os.path.join(WORK, "dask rides")
-        self.assertEqual(run(example("make_rides.py"), folder, str(count), str(minutes), env=variables(PYTHONPATH=PYTHON)).returncode, 0)
+        self.assertEqual(run(example("make_rides.py"), folder, str(count), str(minutes),
+            env=variables(PYTHONPATH=PYTHON)).returncode, 0)
         spec = importlib.util.spec_from_file_location("rides_as_text", example("make_rides.py"))
         made = importlib.util.module_from_spec(spec)
         with unittest.mock.patch.dict(sys.modules, gazhdor=types.SimpleNamespace(from_csv=lambda text: text)):
@@ -317,7 +349,8 @@ class Dask(unittest.TestCase):
         return folder, wanted
 
     def test_rides(self):
-        """By a scheduler and two workers of its own: more rides than a task has, one that is cut, and one that can't be read."""
+        """By a scheduler and two workers of its own: more rides than a task has, one that is cut, and one that can't be
+        read."""
         pythons = [python for python in (sys.executable, "/usr/bin/python3") if os.path.exists(python)]
         pythons = [python for python in pythons if run("-c", "import dask.distributed", python=python).returncode == 0]
         has(pythons, "dask.distributed (Debian's python3-distributed), so examples/python/dask_rides.py isn't tried")

@@ -1,5 +1,5 @@
-"""What streams of the module gazhdor must answer, and calls that read a file object piece by piece: what the calls on all bytes answer, of
-known files and of the ride, in each two pieces and byte by byte."""
+"""What streams of the module gazhdor must answer, and calls that read a file object piece by piece: what the calls on
+all bytes answer, of known files and of the ride, in each two pieces and byte by byte."""
 import copy
 import io
 import itertools
@@ -16,6 +16,7 @@ from support import BYTES, RIDE, folder, known, left_out
 from fits import DESCRIBE, SMALL, UINT16, UINT32, UINT8, any_file, define, describe, fit
 
 import gazhdor
+from gazhdor import _numbers as n
 from gazhdor._library import library, text_of
 from gazhdor._read.streams import each
 
@@ -90,7 +91,8 @@ class Streams(unittest.TestCase):
             self.assertEqual(tuple(found), whole(kind, data))
             answer = gazhdor.check(data)
             if answer.reason:
-                self.assertEqual(count, next(k for k in range(len(pieces)) if answer.place < sum(map(len, pieces[: k + 1]))))
+                self.assertEqual(count, next(k for k in range(len(pieces)) if answer.place < sum(map(len,
+                    pieces[: k + 1]))))
 
     def test_ride(self):
         r = random.Random(20260104)
@@ -133,8 +135,8 @@ class Streams(unittest.TestCase):
         self.assertEqual(blocks, fed("blocks", [data])[0])
         kinds = []
         while at < len(blocks):
-            kinds.append(blocks[at + 4])
-            at += int.from_bytes(blocks[at : at + 4], "little")
+            kinds.append(blocks[at + n.AT_KIND])
+            at += int.from_bytes(blocks[at + n.AT_LENGTH : at + n.AT_LENGTH + 4], "little")
         self.assertEqual((kinds, at), ([1, 2, 3, 2, 3, 4, 1, 2, 2, 3, 3, 3, 2, 3, 4], len(blocks)))
 
     def test_blocks_of_all_bytes(self):
@@ -155,7 +157,8 @@ class Streams(unittest.TestCase):
 
     def test_after_the_end(self):
         """After a good end, and once it is closed, a stream takes nothing more."""
-        for ends in ([gazhdor.Stream.finish], [gazhdor.Stream.finish, gazhdor.Stream.close], [gazhdor.Stream.close], 2 * [gazhdor.Stream.close]):
+        for ends in ([gazhdor.Stream.finish], [gazhdor.Stream.finish, gazhdor.Stream.close], [gazhdor.Stream.close],
+                2 * [gazhdor.Stream.close]):
             stream = gazhdor.Stream("show")
             stream.feed(BYTES)
             for end in ends:
@@ -168,7 +171,9 @@ class Streams(unittest.TestCase):
             self.assertEqual(stream.files, 1)
 
     def test_after_a_fault(self):
-        for data, kind, place, reason in ((b"\x0d", gazhdor.Refused, 0, "HeaderSize"), (BYTES + b"\x0d", gazhdor.Refused, len(BYTES), "HeaderSize"), (BYTES[:2000], gazhdor.Truncated, 2000, None)):
+        for data, kind, place, reason in ((b"\x0d", gazhdor.Refused, 0, "HeaderSize"),
+                (BYTES + b"\x0d", gazhdor.Refused, len(BYTES), "HeaderSize"),
+                (BYTES[:2000], gazhdor.Truncated, 2000, None)):
             stream = gazhdor.Stream("table")
             with self.assertRaises(kind) as first:
                 stream.feed(data)
@@ -177,7 +182,8 @@ class Streams(unittest.TestCase):
             for again in (lambda: stream.feed(data), stream.finish, lambda: stream.feed(b"")):
                 with self.assertRaises(kind) as caught:
                     again()
-                self.assertEqual((caught.exception.place, caught.exception.reason, caught.exception.before), (place, reason, None))
+                self.assertEqual((caught.exception.place, caught.exception.reason, caught.exception.before),
+                    (place, reason, None))
             stream.close()
             with self.assertRaises(kind):
                 stream.feed(b"")
@@ -236,7 +242,8 @@ class Few(io.RawIOBase):
 
 class Sources(unittest.TestCase):
     # Definitions that come in one piece and are used in later ones, and one field by its number and by its name.
-    odd = fit(DESCRIBE, define(0, 20, [(3, 1, UINT8)], [(0, 1, 0)]), b"\0\5\6", describe(0, 0, UINT8, b"Own", b"W"), define(1, 20, [(2, 2, UINT16)], [(0, 1, 0)]), 30 * b"\1\0\1\7", 30 * b"\0\1\2", b"\1\0\1\7")
+    odd = fit(DESCRIBE, define(0, 20, [(3, 1, UINT8)], [(0, 1, 0)]), b"\0\5\6", describe(0, 0, UINT8, b"Own", b"W"),
+        define(1, 20, [(2, 2, UINT16)], [(0, 1, 0)]), 30 * b"\1\0\1\7", 30 * b"\0\1\2", b"\1\0\1\7")
 
     def test_messages(self):
         for data in (self.odd, BYTES, SMALL, 3 * BYTES):
@@ -244,22 +251,26 @@ class Sources(unittest.TestCase):
                 file = Few(data, size, back)
                 self.assertEqual(told(gazhdor.messages(file)), told(gazhdor.messages(data)))
                 self.assertEqual((file.at, file.asked, file.closed), (len(data), 65536, False))
-                self.assertEqual(told(gazhdor.messages(Few(data, size, back), only="record")), told(gazhdor.messages(data, only=20)))
+                self.assertEqual(told(gazhdor.messages(Few(data, size, back), only="record")),
+                    told(gazhdor.messages(data, only=20)))
         self.assertEqual(told(gazhdor.messages(RIDE)), told(gazhdor.messages(BYTES)))
 
     def test_tables(self):
         for data in (BYTES, SMALL, 3 * BYTES):
             for size in (1, 100, 1 << 20):
                 self.assertEqual(list(gazhdor.table(Few(data, size))), list(gazhdor.table(data)))
-        self.assertEqual([(n, len(list(rows))) for n, rows in gazhdor.files(Few(2 * BYTES))], [(n, len(list(rows))) for n, rows in gazhdor.files(2 * BYTES)])
+        self.assertEqual([(n, len(list(rows))) for n, rows in gazhdor.files(Few(2 * BYTES))],
+            [(n, len(list(rows))) for n, rows in gazhdor.files(2 * BYTES)])
 
     def test_faults(self):
-        """A source that can go back is judged first; of another one the messages and rows before a fault come first, as with `partial`."""
+        """A source that can go back is judged first; of another one the messages and rows before a fault come first, as
+        with `partial`."""
         for data, kind in ((BYTES[:2000], gazhdor.Truncated), (BYTES + b"\xff\xff", gazhdor.Refused)):
             for call in (gazhdor.messages, gazhdor.table):
                 before = self.up_to_fault(kind, call(data, partial=True))
                 self.assertTrue(before)
-                for file, partial, wanted in ((Few(data), False, before), (Few(data), True, before), (Few(data, back=True), True, before), (Few(data, back=True), False, [])):
+                for file, partial, wanted in ((Few(data), False, before), (Few(data), True, before),
+                        (Few(data, back=True), True, before), (Few(data, back=True), False, [])):
                     self.assertEqual(self.up_to_fault(kind, call(file, partial=partial)), wanted)
                 path = os.path.join(WORK, "bad.fit")
                 with open(path, "wb") as file:
@@ -287,18 +298,21 @@ class Sources(unittest.TestCase):
         """Files, and how many bytes of each are read at once."""
         r = random.Random(seed)
         random_files = [b"".join(any_file(r) for _ in range(3)) for _ in range(10)]
-        return [(self.odd, 1), (self.odd, 50), (BYTES, 77), (BYTES, 1000), *((data, size) for data in random_files for size in (97, 1000, 5000))]
+        return [(self.odd, 1), (self.odd, 50), (BYTES, 77), (BYTES, 1000),
+            *((data, size) for data in random_files for size in (97, 1000, 5000))]
 
     def test_lists(self):
         for data, size in self.many(20260105):
-            for fields in (None, ["timestamp", ".place", 3, *(["Own"] if data == self.odd else []), (0, 0), "altitude"]):
+            for fields in (None, ["timestamp", ".place", 3, *(["Own"] if data == self.odd else []), (0, 0),
+                    "altitude"]):
                 found, wanted = gazhdor.lists(Few(data, size), "record", fields), gazhdor.lists(data, "record", fields)
                 self.assertEqual((list(found), repr(found)), (list(wanted), repr(wanted)))
         for call in (gazhdor.lists, gazhdor.columns) if self.has_numpy() else (gazhdor.lists,):
             with self.assertRaises(gazhdor.Truncated):
                 call(Few(BYTES[:2000]), "record")
             found = call(Few(BYTES[:2000]), "record", [".place"], partial=True)
-            self.assertEqual(list(found[".place"]), gazhdor.lists(BYTES[:2000], "record", [".place"], partial=True)[".place"])
+            self.assertEqual(list(found[".place"]), gazhdor.lists(BYTES[:2000], "record", [".place"],
+                partial=True)[".place"])
 
     def has_numpy(self):
         try:
@@ -311,11 +325,14 @@ class Sources(unittest.TestCase):
         if not self.has_numpy():
             left_out("there is no numpy, so columns of pieces aren't tried")
         for data, size in self.many(20260106):
-            for fields in (None, ["timestamp", ".place", 3, *(["Own"] if data == self.odd else []), (0, 0), "altitude"]):
-                found, wanted = gazhdor.columns(Few(data, size), "record", fields), gazhdor.columns(data, "record", fields)
+            for fields in (None, ["timestamp", ".place", 3, *(["Own"] if data == self.odd else []), (0, 0),
+                    "altitude"]):
+                found, wanted = gazhdor.columns(Few(data, size), "record", fields), gazhdor.columns(data, "record",
+                    fields)
                 self.assertEqual(list(found), list(wanted))
                 for key in found:
-                    self.assertEqual((found[key].dtype, repr(list(found[key]))), (wanted[key].dtype, repr(list(wanted[key]))))
+                    self.assertEqual((found[key].dtype, repr(list(found[key]))),
+                        (wanted[key].dtype, repr(list(wanted[key]))))
 
     def test_memory(self):
         """What Python itself takes for messages of a source doesn't grow with the source."""
@@ -331,7 +348,8 @@ class Sources(unittest.TestCase):
         self.assertLess(peaks[1], 1.2 * peaks[0] + 500 * len(BYTES))
 
     def test_memory_of_the_process(self):
-        """With all that the library takes, a chain of 10 MB needs a few megabytes more than one of a ride, in pieces of a file."""
+        """With all that the library takes, a chain of 10 MB needs a few megabytes more than one of a ride, in pieces of
+        a file."""
         path = os.path.join(WORK, "long.fit")
         with open(path, "wb") as file:
             file.write(3000 * BYTES)
@@ -341,7 +359,9 @@ def most():
     with open("/proc/self/status") as file:
         return 1024 * int(re.search(r"VmHWM:\\s*(\\d+) kB", file.read()).group(1))
 before = most()
-print(sum(1 for _ in gazhdor.messages(sys.argv[1], only="lap")), gazhdor.check(sys.argv[1]).files, sum(1 for _ in gazhdor.table(sys.argv[1])), most() - before)
+laps = sum(1 for _ in gazhdor.messages(sys.argv[1], only="lap"))
+rows = sum(1 for _ in gazhdor.table(sys.argv[1]))
+print(laps, gazhdor.check(sys.argv[1]).files, rows, most() - before)
 """
         said = subprocess.run([sys.executable, "-c", program, path], stdout=subprocess.PIPE, check=True).stdout.split()
         self.assertEqual([int(word) for word in said[:3]], [3000, 3000, 3000 * len(list(gazhdor.table(BYTES)))])

@@ -1,5 +1,5 @@
-"""Where files that are written go, and that nothing goes there where anything fails; and what writers do with values and names that are meant
-to hurt."""
+"""Where files that are written go, and that nothing goes there where anything fails; and what writers do with values
+and names that are meant to hurt."""
 import _thread
 import datetime
 import decimal
@@ -79,7 +79,8 @@ class Sinks(unittest.TestCase):
         for fault in (KeyError("5"), KeyboardInterrupt(), SystemExit(), gazhdor.WrongValue("", "", 5)):
             with self.assertRaises(type(fault)):
                 self.write(self.path("link"), fault)
-            self.assertEqual((bytes_at(self.path()), sorted(os.listdir(self.folder.name))), (b"old", ["link", "ride.fit"]))
+            self.assertEqual((bytes_at(self.path()), sorted(os.listdir(self.folder.name))),
+                (b"old", ["link", "ride.fit"]))
         self.write(self.path("link"))
         self.assertTrue(gazhdor.check(self.path()))
         self.assertEqual((os.stat(self.path()).st_mode & 0o777, os.readlink(self.path("link"))), (0o640, "ride.fit"))
@@ -94,10 +95,12 @@ class Sinks(unittest.TestCase):
         self.assertEqual(bytes_at(self.path()), bytes_at(RIDE))
 
     def test_no_path(self):
-        for path, kind in ((self.folder.name, IsADirectoryError), (self.path("none/ride.fit"), FileNotFoundError), (self.path(257 * "n"), OSError), ("a\0b", ValueError)):
+        for path, kind in ((self.folder.name, IsADirectoryError), (self.path("none/ride.fit"), FileNotFoundError),
+                (self.path(257 * "n"), OSError), ("a\0b", ValueError)):
             with self.assertRaises(kind):
                 self.write(path)
-        for sink, kind in ((5, TypeError), (None, TypeError), (io.StringIO(), gazhdor.NotBinary), (object(), TypeError)):
+        for sink, kind in ((5, TypeError), (None, TypeError), (io.StringIO(), gazhdor.NotBinary),
+                (object(), TypeError)):
             with self.assertRaises(kind):
                 gazhdor.Writer(sink)
         self.assertEqual(os.listdir(self.folder.name), [])
@@ -136,7 +139,8 @@ class Sinks(unittest.TestCase):
         self.assertFalse(os.path.exists(self.path()))
         out.finish()
         self.assertTrue(gazhdor.check(self.path()))
-        for call in (out.finish, out.file, lambda: record.write(heart_rate=1), lambda: out.copy(message), lambda: out.write("record", power=1), lambda: out.describe("a")):
+        for call in (out.finish, out.file, lambda: record.write(heart_rate=1), lambda: out.copy(message),
+                lambda: out.write("record", power=1), lambda: out.describe("a")):
             with self.assertRaises(ValueError):
                 call()
         with self.assertRaises(ValueError):
@@ -164,8 +168,10 @@ class Hostile(unittest.TestCase):
                 return 10**6 * "x"
 
         good = (120, 120.4, decimal.Decimal("119.5"), fractions.Fraction(241, 2) - 1, 119.5)
-        wrong = (True, False, "120", b"x", 255, -1, 256, float("nan"), float("inf"), -float("inf"), decimal.Decimal("nan"), decimal.Decimal("1e999999999"), 10**5000, -(10**5000))
-        wrong += (decimal.Decimal("-1e-999999999999"), decimal.Decimal(401 * "1"), 1e308, complex(1, 2), object(), Hidden(), {}, set(), datetime.timedelta(1), [1, 2, 3] * 100, lambda: 5)
+        wrong = (True, False, "120", b"x", 255, -1, 256, float("nan"), float("inf"), -float("inf"),
+            decimal.Decimal("nan"), decimal.Decimal("1e999999999"), 10**5000, -(10**5000))
+        wrong += (decimal.Decimal("-1e-999999999999"), decimal.Decimal(401 * "1"), 1e308, complex(1, 2), object(),
+            Hidden(), {}, set(), datetime.timedelta(1), [1, 2, 3] * 100, lambda: 5)
         made = io.BytesIO()
         with gazhdor.Writer(made) as out:
             record = out.define("record", [("heart_rate", "uint8", 1)])
@@ -180,7 +186,8 @@ class Hostile(unittest.TestCase):
                 with self.assertRaises(gazhdor.WrongValue):
                     out.write("record", heart_rate=value)
             record.write(heart_rate=Liar(7))
-        self.assertEqual([message["heart_rate"] for message in gazhdor.messages(made.getvalue())], [120, 120, 120, 120, 120, 7])
+        self.assertEqual([message["heart_rate"] for message in gazhdor.messages(made.getvalue())],
+            [120, 120, 120, 120, 120, 7])
 
     def test_names(self):
         """Hostile names of developer fields, and of keys."""
@@ -194,7 +201,8 @@ class Hostile(unittest.TestCase):
                     out.describe(name)
             with self.assertRaises(gazhdor.WrongValue):
                 out.describe("a", 256 * "u")
-            for how in ({"index": 256}, {"index": -1}, {"number": 256}, {"base": "uint7"}, {"base": 256}, {"native": ("recrod", 7)}, {"native": ("record", 255)}, {"application": b"short" * 60}):
+            for how in ({"index": 256}, {"index": -1}, {"number": 256}, {"base": "uint7"}, {"base": 256},
+                    {"native": ("recrod", 7)}, {"native": ("record", 255)}, {"application": b"short" * 60}):
                 with self.assertRaises((ValueError, KeyError)):
                     out.describe("a", index=7, **how) if "index" not in how else out.describe("a", **how)
         *_, message = gazhdor.messages(made.getvalue())
@@ -269,11 +277,13 @@ class Hostile(unittest.TestCase):
         self.assertEqual(done.stdout, b"True\nTrue\n")
 
     def test_fat_definitions(self):
-        """Definitions whose developer fields have names of 255 bytes, which a file has once, take little when they are copied."""
+        """Definitions whose developer fields have names of 255 bytes, which a file has once, take little when they are
+        copied."""
         described = [(number, 255 * b"n") for number in range(8)]
         records = [define(15, 206, [(0, 1, 2), (1, 1, 2), (2, 1, 2), (3, 255, 7), (8, 255, 7)])]
         records += [bytes([15, 0, number, 2]) + name + 255 * b"u" for number, name in described]
-        records += [define(k % 15, 20, [(3, 1, 2)], [(n % 8, 1, 0) for n in range(255)]) for k in range(300)] + [bytes([3]) + bytes(256)]
+        records += [define(k % 15, 20, [(3, 1, 2)], [(n % 8, 1, 0) for n in range(255)])
+            for k in range(300)] + [bytes([3]) + bytes(256)]
         data = fit(*records)
         made = io.BytesIO()
         tracemalloc.start()
@@ -294,7 +304,8 @@ class Hostile(unittest.TestCase):
             "        out.define(1000 + k % 7000, [(k % 250, 'uint8')]).write({k % 250: 1})\n"
             "print(resource.getrusage(resource.RUSAGE_SELF).ru_maxrss)\n"
         )
-        most = [int(subprocess.run([sys.executable, "-c", program, str(count)], stdout=subprocess.PIPE, check=True).stdout) for count in (10, 4000, 16000)]
+        most = [int(subprocess.run([sys.executable, "-c", program, str(count)], stdout=subprocess.PIPE,
+            check=True).stdout) for count in (10, 4000, 16000)]
         self.assertLess(most[2] - most[0], 6 * max(most[1] - most[0], 3000))
 
     def test_out_of_memory(self):
@@ -311,7 +322,8 @@ class Hostile(unittest.TestCase):
             "except MemoryError:\n"
             "    print('refused', len(sink.getvalue()))\n"
         )
-        said = [subprocess.run([sys.executable, "-c", program, str(most)], stdout=subprocess.PIPE).stdout for most in range(0, 40 * 2**20, 2**21)]
+        said = [subprocess.run([sys.executable, "-c", program, str(most)], stdout=subprocess.PIPE).stdout
+            for most in range(0, 40 * 2**20, 2**21)]
         self.assertEqual(set(said), {b"refused 0\n", b"ok\n"})
 
     def test_sent(self):

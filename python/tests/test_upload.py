@@ -1,5 +1,5 @@
-"""What examples/python/upload.py must answer to uploads that come in small pieces over a connection, and what its page draws where
-Chromium is installed; and what examples/python/load_rides.py does with names that aren't UTF-8."""
+"""What examples/python/upload.py must answer to uploads that come in small pieces over a connection, and what its page
+draws where Chromium is installed; and what examples/python/load_rides.py does with names that aren't UTF-8."""
 import contextlib
 import html
 import io
@@ -29,7 +29,8 @@ BROWSERS = ("chromium", "chromium-browser", "google-chrome")
 
 
 def asked(port, head, pieces=(), ends=False, wait=60):
-    """Sends a request, and the pieces as long as no answer comes; returns the status, what JSON says, and how many bytes were sent."""
+    """Sends a request, and the pieces as long as no answer comes; returns the status, what JSON says, and how many
+    bytes were sent."""
     sent = 0
     with socket.create_connection(("127.0.0.1", port), timeout=wait) as connection:
         connection.setsockopt(socket.IPPROTO_TCP, socket.TCP_NODELAY, 1)
@@ -58,12 +59,16 @@ def asked(port, head, pieces=(), ends=False, wait=60):
 
 
 def with_times(session, start, record):
-    """A file of a session whose timestamp and start_time, and of a record whose timestamp, are fields of these sizes, base types and
-    cells."""
-    rows = ["row,a,b,c,d,e,f", "file,14,32,2065,sum,,", "def,0,0,big,18,3,", "fdef,253,%d,%d,,," % session[:2], "fdef,2,%d,%d,,," % start[:2]]
-    rows += ["fdef,5,1,0,,,", "def,1,0,big,20,2,", "fdef,253,%d,%d,,," % record[:2], "fdef,3,1,2,,,", "data,0,,session,,,"]
-    rows += [f"field,timestamp,{session[2]},s,,,", f"field,start_time,{start[2]},s,,,", "field,sport,2,,,,", "data,1,,record,,,"]
-    return gazhdor.from_csv("\n".join([*rows, f"field,timestamp,{record[2]},s,,,", "field,heart_rate,60,bpm,,,", "end,,,,,,\n"]))
+    """A file of a session whose timestamp and start_time, and of a record whose timestamp, are fields of these sizes,
+    base types and cells."""
+    rows = ["row,a,b,c,d,e,f", "file,14,32,2065,sum,,", "def,0,0,big,18,3,", "fdef,253,%d,%d,,," % session[:2],
+        "fdef,2,%d,%d,,," % start[:2]]
+    rows += ["fdef,5,1,0,,,", "def,1,0,big,20,2,", "fdef,253,%d,%d,,," % record[:2], "fdef,3,1,2,,,",
+        "data,0,,session,,,"]
+    rows += [f"field,timestamp,{session[2]},s,,,", f"field,start_time,{start[2]},s,,,", "field,sport,2,,,,",
+        "data,1,,record,,,"]
+    return gazhdor.from_csv("\n".join([*rows, f"field,timestamp,{record[2]},s,,,", "field,heart_rate,60,bpm,,,",
+        "end,,,,,,\n"]))
 
 
 @contextlib.contextmanager
@@ -85,7 +90,8 @@ class Running:
     """The server, as a program of its own."""
 
     def __init__(self, *words):
-        self.program = subprocess.Popen([sys.executable, example("upload.py"), "--port", "0", *words], stdout=subprocess.PIPE, stderr=subprocess.DEVNULL)
+        self.program = subprocess.Popen([sys.executable, example("upload.py"), "--port", "0", *words],
+            stdout=subprocess.PIPE, stderr=subprocess.DEVNULL)
         self.port = int(self.program.stdout.readline().decode().split(":")[2].strip("/\n"))
 
     def __enter__(self):
@@ -121,9 +127,11 @@ class Uploads(unittest.TestCase):
         lists = gazhdor.lists(BYTES, "record", [".seconds", "altitude", "speed"])
         for size in (1, 100, 5000):
             status, told, _ = self.server.put(BYTES, size)
-            self.assertEqual((status, told["files"], told["counts"]["record"], told["counts"]["lap"]), (200, 1, len(lists["altitude"]), 1))
+            self.assertEqual((status, told["files"], told["counts"]["record"], told["counts"]["lap"]),
+                (200, 1, len(lists["altitude"]), 1))
             drawn = told["drawn"]
-            self.assertEqual((drawn["altitude"], drawn["speed"], set(drawn["heart_rate"])), (lists["altitude"], lists["speed"], {None}))
+            self.assertEqual((drawn["altitude"], drawn["speed"], set(drawn["heart_rate"])),
+                (lists["altitude"], lists["speed"], {None}))
             self.assertEqual(drawn["time"], [seconds + 631065600 for seconds in lists[".seconds"]])
             self.assertEqual(told["laps"][0]["total_distance"], 8558.46)
         self.assertEqual(self.server.put(3 * BYTES)[1]["files"], 3)
@@ -132,27 +140,34 @@ class Uploads(unittest.TestCase):
         """Of many records some are drawn, from the first to the last; of many laps the first are told."""
         status, told, _ = self.server.put(210 * BYTES, 20000)
         count = 210 * len(list(gazhdor.messages(BYTES, only="record")))
-        self.assertEqual((status, told["files"], told["counts"]["record"], told["counts"]["lap"], len(told["laps"])), (200, 210, count, 210, 200))
+        self.assertEqual((status, told["files"], told["counts"]["record"], told["counts"]["lap"], len(told["laps"])),
+            (200, 210, count, 210, 200))
         self.assertTrue(1000 <= len(told["drawn"]["time"]) <= 2000)
         self.assertEqual(len(set(map(len, told["drawn"].values()))), 1)
 
     def test_odd_times(self):
-        """A time may be any number in a file: what is no whole number of seconds in 32 bits is told of nothing, and all else is told."""
+        """A time may be any number in a file: what is no whole number of seconds in 32 bits is told of nothing, and all
+        else is told."""
         known = (4, 134, "1147937400")
         for size, code, cell in (
-            (8, 137, "0x" + struct.pack(">d", 1e300).hex().upper()), (8, 137, "0x" + struct.pack(">d", float("inf")).hex().upper()),
-            (4, 136, "0x" + struct.pack(">f", 1147937400).hex().upper()), (8, 143, str(2**63)), (8, 143, str(10**12)), (8, 142, str(-(2**63))),
+            (8, 137, "0x" + struct.pack(">d", 1e300).hex().upper()),
+            (8, 137, "0x" + struct.pack(">d", float("inf")).hex().upper()),
+            (4, 136, "0x" + struct.pack(">f", 1147937400).hex().upper()), (8, 143, str(2**63)), (8, 143, str(10**12)),
+            (8, 142, str(-(2**63))),
             (4, 133, "-1"), (8, 134, "1|2"), (3, 7, "now"), (4, 13, "0x01020304"), (8, 143, str(2**32 - 1)),
         ):
             odd = (size, code, cell)
             for times in ((odd, known, known), (known, odd, known), (odd, odd, odd)):
                 status, told, _ = self.server.put(with_times(*times))
-                self.assertEqual((status, told["counts"], told["sessions"][0]["sport"]), (200, {"session": 1, "lap": 0, "record": 1}, 2))
+                self.assertEqual((status, told["counts"], told["sessions"][0]["sport"]),
+                    (200, {"session": 1, "lap": 0, "record": 1}, 2))
                 names = [name for name, time in zip(("timestamp", "start_time"), times) if time == known]
                 self.assertEqual({name: told["sessions"][0].get(name) for name in ("timestamp", "start_time")},
-                                 {name: "2026-05-17 07:30:00+00:00" if name in names else None for name in ("timestamp", "start_time")})
+                                 {name: "2026-05-17 07:30:00+00:00" if name in names else None
+                                     for name in ("timestamp", "start_time")})
         status, told, _ = self.server.put(with_times((4, 134, "0"), (8, 143, str(2**32 - 2)), known))
-        self.assertEqual((status, told["sessions"][0]["timestamp"], told["sessions"][0]["start_time"]), (200, "system+0", "2126-02-06 06:28:14+00:00"))
+        self.assertEqual((status, told["sessions"][0]["timestamp"], told["sessions"][0]["start_time"]),
+            (200, "system+0", "2126-02-06 06:28:14+00:00"))
 
     def test_ranges(self):
         """The ranges are those of all records with a time, of which few are drawn."""
@@ -169,7 +184,8 @@ class Uploads(unittest.TestCase):
         self.assertNotEqual([told["ranges"][name] for name in ("altitude", "speed", "heart_rate")],
                             [[min(filter(None, values)), max(filter(None, values))] for values in drawn])
         status, told, _ = self.server.put(with_times(*3 * [(8, 143, str(2**63))]))
-        self.assertEqual((status, told["drawn"]["heart_rate"], told["ranges"]), (200, [60], dict.fromkeys(upload.DRAWN)))
+        self.assertEqual((status, told["drawn"]["heart_rate"], told["ranges"]),
+            (200, [60], dict.fromkeys(upload.DRAWN)))
 
     def test_cut(self):
         for end in (0, 1, 14, 2000, len(BYTES) - 1):
@@ -181,12 +197,15 @@ class Uploads(unittest.TestCase):
             data = BYTES[:place] + bytes([BYTES[place] ^ 0x55]) + BYTES[place + 1 :]
             answer = gazhdor.check(data)
             status, told, _ = self.server.put(data)
-            self.assertEqual((status, told), (422, {"error": str(answer), "place": answer.place, "reason": answer.reason}))
+            self.assertEqual((status, told), (422, {"error": str(answer), "place": answer.place,
+                "reason": answer.reason}))
 
     def test_before_the_rest(self):
-        """The answer comes with the first byte that is refused, while more is to come; then the connection is closed."""
+        """The answer comes with the first byte that is refused, while more is to come; then the connection is
+        closed."""
         status, told, _ = self.server.put(b"PK\3\4", length=3000000)
-        self.assertEqual((status, told), (422, {"error": "refused at byte 1: Protocol", "place": 1, "reason": "Protocol"}))
+        self.assertEqual((status, told), (422, {"error": "refused at byte 1: Protocol", "place": 1,
+            "reason": "Protocol"}))
         # A client that goes on sends no more than a part, and still reads the answer.
         status, told, sent = self.server.put(b"\x0d" + bytes(3999999), 1000)
         self.assertEqual((status, told["place"], told["reason"]), (422, 0, "HeaderSize"))
@@ -195,10 +214,14 @@ class Uploads(unittest.TestCase):
     def test_bad_requests(self):
         post = "POST /rides HTTP/1.1\r\nHost: test"
         for head, status in (
-            (post, 411), (post + "\r\nTransfer-Encoding: chunked", 411), (post + "\r\nContent-Length: -1", 400), (post + "\r\nContent-Length: 1e3", 400),
-            (post + "\r\nContent-Length: 5\r\nContent-Length: 5", 400), (post + "\r\nContent-Length: 4000001", 413), (post + f"\r\nContent-Length: {'9' * 500}", 413),
-            ("POST /other HTTP/1.1\r\nHost: test\r\nContent-Length: 5", 404), ("GET /other HTTP/1.1\r\nHost: test", 404),
-            ("PUT /rides HTTP/1.1\r\nHost: test\r\nContent-Length: 5", 501), ("POST /rides HTTP/1.1 and more\r\nHost: test", 400),
+            (post, 411), (post + "\r\nTransfer-Encoding: chunked", 411), (post + "\r\nContent-Length: -1", 400),
+            (post + "\r\nContent-Length: 1e3", 400),
+            (post + "\r\nContent-Length: 5\r\nContent-Length: 5", 400), (post + "\r\nContent-Length: 4000001", 413),
+            (post + f"\r\nContent-Length: {'9' * 500}", 413),
+            ("POST /other HTTP/1.1\r\nHost: test\r\nContent-Length: 5", 404),
+            ("GET /other HTTP/1.1\r\nHost: test", 404),
+            ("PUT /rides HTTP/1.1\r\nHost: test\r\nContent-Length: 5", 501),
+            ("POST /rides HTTP/1.1 and more\r\nHost: test", 400),
             ("POST /rides HTTP/9.1\r\nHost: test", 505), (post + "".join(f"\r\nX-{n}: 1" for n in range(101)), 431),
         ):
             found, told, _ = asked(self.server.port, head)
@@ -231,8 +254,8 @@ class Uploads(unittest.TestCase):
                     self.assertEqual(connection.recv(1), b"")
 
     def test_head(self):
-        """The head of a request has a time of its own, so that a few connections that send nothing don't keep others out for long; the
-        bytes of an upload have more."""
+        """The head of a request has a time of its own, so that a few connections that send nothing don't keep others
+        out for long; the bytes of an upload have more."""
         with Running("--seconds", "50", "--head-seconds", "1", "--at-once", "2") as server:
             begin = time.monotonic()
             with server.connected() as one, server.connected() as two:
@@ -245,7 +268,8 @@ class Uploads(unittest.TestCase):
                 for at in range(0, len(BYTES), 1000):
                     time.sleep(0.4)
                     yield BYTES[at : at + 1000]
-            self.assertEqual(asked(server.port, f"POST /rides HTTP/1.1\r\nHost: test\r\nContent-Length: {len(BYTES)}", slow())[0], 200)
+            self.assertEqual(asked(server.port, f"POST /rides HTTP/1.1\r\nHost: test\r\nContent-Length: {len(BYTES)}",
+                slow())[0], 200)
 
     def test_not_foreseen(self):
         """What nobody has foreseen is an answer too, and is written down; the place is free again."""
@@ -320,8 +344,10 @@ class Page(unittest.TestCase):
             left_out("there is no Chromium, so what the page of uploads draws isn't looked at")
         handler = type("Handler", (Dropping,), {"data": data})
         with served(handler) as (_, port), tempfile.TemporaryDirectory() as folder:
-            words = ["--headless", "--no-sandbox", "--disable-gpu", f"--user-data-dir={folder}", "--virtual-time-budget=20000", "--dump-dom"]
-            said = subprocess.run([browser, *words, f"http://127.0.0.1:{port}/drop"], stdout=subprocess.PIPE, stderr=subprocess.DEVNULL, timeout=120)
+            words = ["--headless", "--no-sandbox", "--disable-gpu", f"--user-data-dir={folder}",
+                "--virtual-time-budget=20000", "--dump-dom"]
+            said = subprocess.run([browser, *words, f"http://127.0.0.1:{port}/drop"], stdout=subprocess.PIPE,
+                stderr=subprocess.DEVNULL, timeout=120)
         return said.stdout.decode()
 
     def test_drawn(self):
@@ -335,7 +361,8 @@ class Page(unittest.TestCase):
             points = [tuple(map(float, point.split())) for point in re.split("[ML]", drawn.group(2))[1:]]
             self.assertEqual((len(points), points[0][0] <= points[-1][0], points[-1][0]), (len(values), True, 780.0))
             highest = max(range(len(values)), key=values.__getitem__)
-            self.assertEqual((min(y for _, y in points), points[highest][1], max(y for _, y in points)), (40.0, 40.0, 140.0))
+            self.assertEqual((min(y for _, y in points), points[highest][1], max(y for _, y in points)),
+                (40.0, 40.0, 140.0))
 
     def test_range_of_all(self):
         """Of a long ride some points are drawn, and the ranges are those of all."""
@@ -350,7 +377,8 @@ class Page(unittest.TestCase):
 
     def test_refused(self):
         """What is wrong is said, also where the browser has still to send a lot of the file."""
-        for data, finding in ((BYTES[:2000], "truncated at byte 2000"), (b"PK" + bytes(9000000), "refused at byte 1: Protocol")):
+        for data, finding in ((BYTES[:2000], "truncated at byte 2000"),
+                (b"PK" + bytes(9000000), "refused at byte 1: Protocol")):
             page = self.dropped(data)
             self.assertRegex(page, rf'<p id="finding"[^>]*class="bad"[^>]*>a &lt;ride&gt;.fit: {finding}</p>')
             self.assertNotIn("<svg", page)
@@ -358,11 +386,13 @@ class Page(unittest.TestCase):
 
 class Loading(unittest.TestCase):
     def test_names(self):
-        """Names that aren't UTF-8, of rides, of one that isn't there, and of the folder of the database, end nothing."""
+        """Names that aren't UTF-8, of rides, of one that isn't there, and of the folder of the database, end
+        nothing."""
         with tempfile.TemporaryDirectory() as folder:
             inner = os.path.join(os.fsencode(folder), b"a\xfe")
             os.mkdir(inner)
-            paths = [os.path.join(inner, name) for name in (b"\xff.fit", "\u00e9.fit".encode(), b"none\xff.fit", b"b.fit")]
+            paths = [os.path.join(inner, name) for name in (b"\xff.fit", "\u00e9.fit".encode(), b"none\xff.fit",
+                b"b.fit")]
             for path in (paths[0], paths[1], paths[3]):
                 with open(path, "wb") as file:
                     file.write(BYTES)
@@ -371,9 +401,12 @@ class Loading(unittest.TestCase):
             self.assertEqual((done.returncode, done.stderr), (0, b""))
             self.assertIn(b"4 files, 1 not good, 432 rows", done.stdout)
             with contextlib.closing(sqlite3.connect(os.fsdecode(database))) as into:
-                rows = into.execute("select path, finding, (select count(*) from record where ride = id) from ride order by id").fetchall()
+                rows = into.execute(
+                    "select path, finding, (select count(*) from record where ride = id) from ride order by id"
+                ).fetchall()
         self.assertEqual([(path[len(folder) :], count) for path, _, count in rows],
-                         [("/a\\xfe/\\xff.fit", 144), ("/a\\xfe/\u00e9.fit", 144), ("/a\\xfe/none\\xff.fit", 0), ("/a\\xfe/b.fit", 144)])
+                         [("/a\\xfe/\\xff.fit", 144), ("/a\\xfe/\u00e9.fit", 144), ("/a\\xfe/none\\xff.fit", 0),
+                             ("/a\\xfe/b.fit", 144)])
         self.assertEqual([finding for _, finding, _ in rows if finding != "ok"], [rows[2][1]])
         self.assertIn("No such file or directory", rows[2][1])
 

@@ -25,15 +25,18 @@ SECONDS = int((START - datetime.datetime(1989, 12, 31, tzinfo=UTC)).total_second
 
 class Bytes(unittest.TestCase):
     def test_records(self):
-        """A file by its bytes: place and altitude by the arithmetic of the profile, 2^31 semicircles for 180 degrees, fifths of a metre over -500."""
+        """A file by its bytes: place and altitude by the arithmetic of the profile, 2^31 semicircles for 180 degrees,
+        fifths of a metre over -500."""
         lat, long = (round(fractions.Fraction(degrees) * 2**31 / 180) for degrees in (47.3, 8.57))
         data = written(
             lambda out: out.write("file_id", type=4, manufacturer=255, time_created=START),
-            lambda out: out.write("record", timestamp=START, heart_rate=120, position_lat=47.3, position_long=8.57, altitude=408.0, power=None),
+            lambda out: out.write("record", timestamp=START, heart_rate=120, position_lat=47.3, position_long=8.57,
+                altitude=408.0, power=None),
         )
         first = define(0, 0, [(0, 1, 0), (1, 2, UINT16), (4, 4, UINT32)]) + packed("<BBHI", 0, 4, 255, SECONDS)
         fields = [(253, 4, UINT32), (3, 1, UINT8), (0, 4, SINT32), (1, 4, SINT32), (2, 2, UINT16), (7, 2, UINT16)]
-        self.assertEqual(data, whole(first, define(1, 20, fields), packed("<BIBiiHH", 1, SECONDS, 120, lat, long, 4540, 65535)))
+        self.assertEqual(data, whole(first, define(1, 20, fields), packed("<BIBiiHH", 1, SECONDS, 120, lat, long, 4540,
+            65535)))
 
     def test_developer(self):
         def step(out):
@@ -48,13 +51,16 @@ class Bytes(unittest.TestCase):
 
         messages = list(gazhdor.messages(written(step), only="record"))
         self.assertEqual([message["Form power"] for message in messages], [200, 201, 202, 203, 204])
-        self.assertEqual([message.time for message in messages[:4]], [START + datetime.timedelta(0, k) for k in (0, 1, 2, 0)])
+        self.assertEqual([message.time for message in messages[:4]],
+            [START + datetime.timedelta(0, k) for k in (0, 1, 2, 0)])
         self.assertEqual((messages[0].unit("Form power"), messages[0].native("power")), ("watts", 200))
 
     def test_big(self):
         fields = [("power", "uint16"), ("position_lat", "sint32"), (200, "uint16", 2)]
-        data = written(lambda out: out.define("record", fields, local=3, big=True, reserved=7).write({"power": 258, "position_lat": -2, 200: (1, None)}))
-        self.assertEqual(data, whole(bytes([0x43, 7, 1, 0, 20, 3, 7, 2, 0x84, 0, 4, 0x85, 200, 4, 0x84, 3, 1, 2]) + b"\xff\xff\xff\xfe" + b"\0\x01\xff\xff"))
+        data = written(lambda out: out.define("record", fields, local=3, big=True,
+            reserved=7).write({"power": 258, "position_lat": -2, 200: (1, None)}))
+        self.assertEqual(data, whole(bytes([0x43, 7, 1, 0, 20, 3, 7, 2, 0x84, 0, 4, 0x85, 200, 4, 0x84, 3, 1,
+            2]) + b"\xff\xff\xff\xfe" + b"\0\x01\xff\xff"))
 
     def test_headers(self):
         def step(out):
@@ -63,10 +69,13 @@ class Bytes(unittest.TestCase):
             out.file(size=17, more=b"abc")
             out.file(checksum="zeros")
 
-        files = [event for event in gazhdor.messages(written(step), everything=True) if isinstance(event, gazhdor.FileHeader)]
+        files = [event for event in gazhdor.messages(written(step), everything=True)
+            if isinstance(event, gazhdor.FileHeader)]
         told = [(file.size, file.protocol, file.profile, file.checksum, file.more, file.file) for file in files]
-        self.assertEqual(told, [(12, 16, 100, "none", b"", 1), (17, 32, 21158, "there", b"abc", 2), (14, 32, 21158, "zeros", b"", 3)])
-        for wrong in ({"protocol": 0x30}, {"size": 13}, {"size": 15}, {"checksum": "none"}, {"checksum": "sum"}, {"profile": 65536}, {"more": b"x"}, {"protocol": True}):
+        self.assertEqual(told, [(12, 16, 100, "none", b"", 1), (17, 32, 21158, "there", b"abc", 2),
+            (14, 32, 21158, "zeros", b"", 3)])
+        for wrong in ({"protocol": 0x30}, {"size": 13}, {"size": 15}, {"checksum": "none"}, {"checksum": "sum"},
+                {"profile": 65536}, {"more": b"x"}, {"protocol": True}):
             with self.assertRaises(ValueError):
                 written(lambda out: out.file(**wrong))
 
@@ -76,7 +85,8 @@ class Bytes(unittest.TestCase):
             out.define("record", "heart_rate", local=2).write({"heart_rate": 2, ".time_offset": (SECONDS + 5) % 32})
 
         *_, message = gazhdor.messages(written(step))
-        self.assertEqual((message.time, message["heart_rate"], message.time_offset), (START + datetime.timedelta(0, 5), 2, (SECONDS + 5) % 32))
+        self.assertEqual((message.time, message["heart_rate"], message.time_offset),
+            (START + datetime.timedelta(0, 5), 2, (SECONDS + 5) % 32))
         for offset in (-1, 32, 255, 1.0, True):
             with self.assertRaises(gazhdor.WrongValue):
                 written(lambda out: out.define("record", "heart_rate", local=2).write({".time_offset": offset}))
@@ -88,8 +98,10 @@ class Numbers(unittest.TestCase):
     def test_steps(self):
         """A value becomes the nearest step, of two the one further from zero: by exact fractions, for any double."""
         r = random.Random(1)
-        for key, form, scale, offset, span in (("altitude", "<H", 5, 500, 13000), ("speed", "<H", 1000, 0, 65), ("distance", "<I", 100, 0, 4e7), ("grade", "<h", 100, 0, 320)):
-            values = [r.uniform(-span, span) for _ in range(300)] + [round(r.uniform(-span, span), 1) for _ in range(300)]
+        for key, form, scale, offset, span in (("altitude", "<H", 5, 500, 13000), ("speed", "<H", 1000, 0, 65),
+                ("distance", "<I", 100, 0, 4e7), ("grade", "<h", 100, 0, 320)):
+            values = [r.uniform(-span, span) for _ in range(300)] + [round(r.uniform(-span, span), 1)
+                for _ in range(300)]
             values += [(r.randrange(2 * int(span)) + 0.5) / scale - offset for _ in range(300)]
             wanted = []
             for value in values:
@@ -106,7 +118,8 @@ class Numbers(unittest.TestCase):
                     with self.assertRaises(gazhdor.WrongValue):
                         one("record", {key: value})
             items = [item for _, item in good]
-            for column in ([value for value, _ in good], numpy and numpy.array([value for value, _ in good]), 20 * [value for value, _ in good]):
+            for column in ([value for value, _ in good], numpy and numpy.array([value for value, _ in good]),
+                    20 * [value for value, _ in good]):
                 if column is not None:
                     data = written(lambda out: out.define("record", [key]).columns({key: column}))
                     found = [message.field(key).raw for message in gazhdor.messages(data)]
@@ -115,7 +128,8 @@ class Numbers(unittest.TestCase):
     def test_degrees(self):
         """An int is semicircles, and a float degrees."""
         half = 45 / 2**30  # half a semicircle
-        for value, item in ((47, 47), (47.0, round(47 * 2**31 / 180)), (-180.0, -(2**31)), (half, 1), (-half, -1), (half / 2, 0), (3 * half, 2), (None, 2**31 - 1)):
+        for value, item in ((47, 47), (47.0, round(47 * 2**31 / 180)), (-180.0, -(2**31)), (half, 1), (-half, -1),
+                (half / 2, 0), (3 * half, 2), (None, 2**31 - 1)):
             self.assertEqual(one("record", {"position_lat": value}), packed("<i", item), value)
             if value is not None:
                 data = written(lambda out: out.define("record", "position_lat").columns(position_lat=5000 * [value]))
@@ -126,14 +140,19 @@ class Numbers(unittest.TestCase):
             self.assertIn("-180.0 to", str(caught.exception))
 
     def test_all_items(self):
-        """What is read of each item of 8 and 16 bits, and of some of 32 and 64, is written as it was, scaled too, in the proved profile and beside it."""
+        """What is read of each item of 8 and 16 bits, and of some of 32 and 64, is written as it was, scaled too, in
+        the proved profile and beside it."""
         r = random.Random(2)
-        for message, field, code in (("record", 2, UINT16), ("record", 9, SINT16), ("lap", 9, UINT32), ("record", 78, UINT32), ("record", 3, UINT8), ("device_info", 10, UINT16)):
-            for names in (None, {("record", 2): ("a", "m", 7, 11), ("record", 9): ("b", "%", 0.7111111), ("lap", 9): ("c", "m", 3, 0.5)}):
+        for message, field, code in (("record", 2, UINT16), ("record", 9, SINT16), ("lap", 9, UINT32),
+                ("record", 78, UINT32), ("record", 3, UINT8), ("device_info", 10, UINT16)):
+            for names in (None, {("record", 2): ("a", "m", 7, 11), ("record", 9): ("b", "%", 0.7111111),
+                    ("lap", 9): ("c", "m", 3, 0.5)}):
                 width = struct.calcsize({UINT8: "B", UINT16: "H", SINT16: "H", UINT32: "I"}[code])
-                raws = range(0, 256**width, 1 if width == 1 else 251) if width < 4 else [r.randrange(2**32) for _ in range(300)]
+                raws = range(0, 256**width, 1 if width == 1 else 251) if width < 4 else [r.randrange(2**32)
+                    for _ in range(300)]
                 number = {"record": 20, "lap": 19, "device_info": 23}[message]
-                source = fit(define(0, number, [(field, width, code)]), *(b"\0" + raw.to_bytes(width, "little") for raw in raws))
+                source = fit(define(0, number, [(field, width, code)]),
+                    *(b"\0" + raw.to_bytes(width, "little") for raw in raws))
                 self.assertEqual(through_values(source, names), source)
         for code in (SINT64, UINT64):
             raws = [r.randrange(2**64) for _ in range(50)] + [0, 1, 2**63 - 1, 2**63, 2**64 - 1]
@@ -141,9 +160,11 @@ class Numbers(unittest.TestCase):
             self.assertEqual(through_values(source), source)
 
     def test_floats(self):
-        for code, form, values in ((FLOAT32, "<f", (1.5, -0.0, 1e-45, 3e38, float("inf"), 7)), (FLOAT64, "<d", (0.1, -1e308, 5e-324, 2**60, float("-inf")))):
+        for code, form, values in ((FLOAT32, "<f", (1.5, -0.0, 1e-45, 3e38, float("inf"), 7)),
+                (FLOAT64, "<d", (0.1, -1e308, 5e-324, 2**60, float("-inf")))):
             for value in values:
-                self.assertEqual(one(999, {1: value}, [(1, {FLOAT32: "float32", FLOAT64: "float64"}[code])]), packed(form, value))
+                self.assertEqual(one(999, {1: value}, [(1, {FLOAT32: "float32", FLOAT64: "float64"}[code])]),
+                    packed(form, value))
         self.assertEqual(one(999, {1: None}, [(1, "float32")]), b"\xff\xff\xff\xff")
         self.assertEqual(one(999, {1: float("nan")}, [(1, "float32")])[2:], b"\xc0\x7f")
         for wrong in (1e39, 2**2000, "1", True, START, b"x", decimal.Decimal("1e400")):
@@ -158,23 +179,27 @@ class Times(unittest.TestCase):
             self.assertEqual(one("record", {"timestamp": told}), packed("<I", SECONDS))
         self.assertEqual(one("record", {"timestamp": "system+7"}), packed("<I", 7))
         self.assertEqual(one("activity", {"local_timestamp": START.replace(tzinfo=None)}), packed("<I", SECONDS))
-        for key, wrong in (("timestamp", START.replace(tzinfo=None)), ("local_timestamp", START), ("timestamp", "2026-05-17"), ("timestamp", "system+268435456"), ("timestamp", "system+" + "9" * 5000)):
+        for key, wrong in (("timestamp", START.replace(tzinfo=None)), ("local_timestamp", START),
+                ("timestamp", "2026-05-17"), ("timestamp", "system+268435456"), ("timestamp", "system+" + "9" * 5000)):
             with self.assertRaises(gazhdor.WrongValue) as caught:
                 one("activity", {key: wrong})
             self.assertLess(len(str(caught.exception)), 300)
-        for wrong in (datetime.datetime(1998, 7, 3, tzinfo=UTC), datetime.datetime(9999, 1, 1, tzinfo=UTC), START.date()):
+        for wrong in (datetime.datetime(1998, 7, 3, tzinfo=UTC), datetime.datetime(9999, 1, 1, tzinfo=UTC),
+                START.date()):
             with self.assertRaises(gazhdor.WrongValue):
                 one("record", {"timestamp": wrong})
         with self.assertRaises(gazhdor.WrongValue):
             one("record", {"heart_rate": START})
 
     def test_own_names(self):
-        names = {(999, 4): ("begun", "s", None, None, "date_time", "uint32"), (999, 5): ("at", "semicircles", None, None, None, "sint32")}
+        names = {(999, 4): ("begun", "s", None, None, "date_time", "uint32"),
+            (999, 5): ("at", "semicircles", None, None, None, "sint32")}
         self.assertEqual(one(999, {"begun": START}, names=names), packed("<I", SECONDS))
         self.assertEqual(one(999, {"at": 90.0}, names=names), packed("<i", 2**30))
         self.assertEqual(one("record", {"vertical_ratio": 8.12}, names=gazhdor.EXTRA), packed("<H", 812))
         self.assertEqual(one("record", {"pulse": 120}, names={("record", 3): "pulse"}), b"\x78")
-        self.assertEqual(one("record", {"pulse": 12.5}, names={("record", 3): ("pulse", "%", 10, 0, None, "uint16")}), packed("<H", 125))
+        self.assertEqual(one("record", {"pulse": 12.5}, names={("record", 3): ("pulse", "%", 10, 0, None, "uint16")}),
+            packed("<H", 125))
         with self.assertRaises(gazhdor.UnknownName):
             one("record", {"heart_rate": 120}, names={("record", 3): "pulse"})
 
@@ -193,8 +218,10 @@ class Fields(unittest.TestCase):
             out.write("hrv", time=(beat / 1000 for beat in (900, 901, 902, 903, 904)))
 
         messages = list(gazhdor.messages(written(step)))
-        self.assertEqual([message["name"] for message in messages[:3]], ["Kaltern am See", "Up", "C\u00f4te d'Azur, the longer of both ways"])
-        self.assertEqual([message.values("time") for message in messages[3:]], [(0.5, 0.75), (0.5,), (0.9, 0.901, 0.902, 0.903, 0.904)])
+        self.assertEqual([message["name"] for message in messages[:3]],
+            ["Kaltern am See", "Up", "C\u00f4te d'Azur, the longer of both ways"])
+        self.assertEqual([message.values("time") for message in messages[3:]],
+            [(0.5, 0.75), (0.5,), (0.9, 0.901, 0.902, 0.903, 0.904)])
         self.assertEqual(one("sport", {"name": "Up"}, [("name", "string", 4)]), b"Up\0\0")
         self.assertEqual(one("sport", {"name": "Upon"}, [("name", "string", 4)]), b"Upon")
         self.assertEqual(one("sport", {"name": 254 * "n"}), 254 * b"n" + b"\0")
@@ -258,25 +285,30 @@ class Fields(unittest.TestCase):
                 written(call, lambda out: out.write("record", power=1))
 
     def test_replace(self):
-        (message,) = gazhdor.messages(fit(define(0, 20, [(253, 4, UINT32), (3, 1, UINT8), (0, 4, SINT32), (2, 2, UINT16)]), packed("<BIBiH", 0, SECONDS, 120, 5, 4540)))
+        (message,) = gazhdor.messages(fit(define(0, 20, [(253, 4, UINT32), (3, 1, UINT8), (0, 4, SINT32),
+            (2, 2, UINT16)]), packed("<BIBiH", 0, SECONDS, 120, 5, 4540)))
         changed = message.replace({3: 121}, position_lat=None, altitude=409.2, timestamp=START + datetime.timedelta(1))
-        self.assertEqual((dict(changed), changed.time), ({"timestamp": SECONDS + 86400, "heart_rate": 121, "position_lat": None, "altitude": 409.2}, START + datetime.timedelta(1)))
+        self.assertEqual((dict(changed), changed.time), ({"timestamp": SECONDS + 86400, "heart_rate": 121,
+            "position_lat": None, "altitude": 409.2}, START + datetime.timedelta(1)))
         self.assertEqual((message["heart_rate"], message.time, message.replace()), (120, START, message))
         self.assertIsNone(message.replace(timestamp=None).time)
         empty = message.emptied(lambda field: field.base in (UINT32, SINT32) or field.unit == "m")
-        self.assertEqual((dict(empty), empty.time), ({"timestamp": None, "heart_rate": 120, "position_lat": None, "altitude": None}, None))
+        self.assertEqual((dict(empty), empty.time), ({"timestamp": None, "heart_rate": 120, "position_lat": None,
+            "altitude": None}, None))
         with self.assertRaises(gazhdor.UnknownName):
             message.replace(hart_rate=1)
         with self.assertRaises(KeyError):
             message.replace({200: 1})
         with self.assertRaises(gazhdor.WrongValue) as caught:
             message.replace(heart_rate=255)
-        self.assertEqual((caught.exception.field, caught.exception.value, caught.exception.least, caught.exception.most), ("heart_rate", 255, 0, 254))
+        self.assertEqual((caught.exception.field, caught.exception.value, caught.exception.least,
+            caught.exception.most), ("heart_rate", 255, 0, 254))
 
     def test_left_out(self):
         """Messages whose time is in their header keep it, also where those before them are left out."""
         records = define(0, 20, [(253, 4, UINT32), (3, 1, UINT8)]), define(1, 20, [(3, 1, UINT8)])
-        source = fit(*records, packed("<BIB", 0, SECONDS, 1), *(bytes([0x80 | 1 << 5 | SECONDS + k & 31, k]) for k in range(0, 250, 7)))
+        source = fit(*records, packed("<BIB", 0, SECONDS, 1),
+            *(bytes([0x80 | 1 << 5 | SECONDS + k & 31, k]) for k in range(0, 250, 7)))
         messages = list(gazhdor.messages(source))
         kept = messages[3:4] + messages[5:7] + messages[20:]
         again = list(gazhdor.messages(written(*(lambda out, m=m: out.copy(m) for m in kept))))
@@ -306,51 +338,68 @@ class Columns(unittest.TestCase):
             9: [k % 3 for k in range(count)],
         }
         columns["power"] = list(columns["power"])
-        rows = written(lambda out: [out.write("record", {key: column[k] for key, column in columns.items()}) for k in range(count)])
-        self.assertEqual(written(lambda out: out.define("record", list(columns)).columns({**columns, "power": iter(columns["power"])})), rows)
+        rows = written(lambda out: [out.write("record", {key: column[k] for key, column in columns.items()})
+            for k in range(count)])
+        self.assertEqual(written(lambda out: out.define("record", list(columns)).columns({**columns,
+            "power": iter(columns["power"])})), rows)
         texts = {"name": [None if k % 3 == 0 else k * "n" for k in range(40)], "sport": list(range(40))}
-        found = [dict(m) for m in gazhdor.messages(written(lambda out: out.define("sport", "name sport").columns(texts)))]
-        self.assertEqual(found, [{"name": name or None, "sport": sport} for name, sport in zip(texts["name"], texts["sport"])])
+        found = [dict(m) for m in gazhdor.messages(written(lambda out: out.define("sport",
+            "name sport").columns(texts)))]
+        self.assertEqual(found, [{"name": name or None, "sport": sport} for name,
+            sport in zip(texts["name"], texts["sport"])])
         beats = [tuple(beat / 1000 for beat in range(k)) for k in range(6)]
-        self.assertEqual([m.values("time") for m in gazhdor.messages(written(lambda out: out.define("hrv", "time").columns(time=beats)))], beats)
+        self.assertEqual([m.values("time") for m in gazhdor.messages(written(lambda out: out.define("hrv",
+            "time").columns(time=beats)))], beats)
 
     @unittest.skipUnless(numpy, "there is no numpy")
     def test_arrays(self):
         count = 5000
         r = random.Random(6)
-        whole_numbers, halves = [r.randrange(200) for _ in range(count)], [round(r.uniform(-400, 9000), 1) for _ in range(count)]
-        lists = {"timestamp": [SECONDS + k for k in range(count)], "heart_rate": whole_numbers, "altitude": halves, "position_long": [r.uniform(-180, 179) for _ in range(count)]}
+        whole_numbers, halves = [r.randrange(200) for _ in range(count)], [round(r.uniform(-400, 9000), 1)
+            for _ in range(count)]
+        lists = {"timestamp": [SECONDS + k for k in range(count)], "heart_rate": whole_numbers, "altitude": halves,
+            "position_long": [r.uniform(-180, 179) for _ in range(count)]}
         lists[(200)] = [r.uniform(-1e9, 1e9) for _ in range(count)]
         fields = ["timestamp", "heart_rate", "altitude", "position_long", (200, "float32")]
-        wanted = written(lambda out: [out.define("record", fields, local=0).write({key: column[0] for key, column in lists.items()})])[:-2]
+        wanted = written(lambda out: [out.define("record", fields, local=0).write({key: column[0] for key,
+            column in lists.items()})])[:-2]
         arrays = {key: numpy.array(column) for key, column in lists.items()}
         made = written(lambda out: out.define("record", fields, local=0).columns(arrays))
-        rows = written(lambda out: (lambda record: [record.write({key: column[k] for key, column in lists.items()}) for k in range(count)])(out.define("record", fields, local=0)))
+        rows = written(lambda out: (lambda record: [record.write({key: column[k] for key, column in lists.items()})
+            for k in range(count)])(out.define("record", fields, local=0)))
         self.assertEqual(made, rows)
         self.assertEqual(made[14 : len(wanted)], wanted[14:])
-        arrays["timestamp"] = numpy.array([START.replace(tzinfo=None)] * count, "datetime64[ms]") + numpy.arange(count).astype("timedelta64[s]")
+        arrays["timestamp"] = numpy.array([START.replace(tzinfo=None)] * count,
+            "datetime64[ms]") + numpy.arange(count).astype("timedelta64[s]")
         self.assertEqual(written(lambda out: out.define("record", fields, local=0).columns(arrays)), rows)
         self.assertEqual(written(lambda out: out.define("record", fields, local=0).columns(lists)), rows)
 
     @unittest.skipUnless(numpy, "there is no numpy")
     def test_nothing(self):
         """NaN and NaT are no value, as in the arrays of `columns`."""
-        columns = {"timestamp": numpy.array(["2026-05-17T07:30:00", "NaT"], "datetime64[s]"), "heart_rate": numpy.array([numpy.nan, 120.0]), "altitude": numpy.array([408.0, numpy.nan], "f4")}
-        found = [dict(m) for m in gazhdor.messages(written(lambda out: out.define("record", list(columns)).columns(columns)))]
-        self.assertEqual(found, [{"timestamp": SECONDS, "heart_rate": None, "altitude": 408.0}, {"timestamp": None, "heart_rate": 120, "altitude": None}])
-        for wrong in (numpy.array([1.0, numpy.inf]), numpy.array([1, 255]), numpy.array([-1, 2]), numpy.array([1, 2**40]), numpy.array([True, False]), numpy.array([2**63], "u8"), numpy.array(["1"])):
+        columns = {"timestamp": numpy.array(["2026-05-17T07:30:00", "NaT"], "datetime64[s]"),
+            "heart_rate": numpy.array([numpy.nan, 120.0]), "altitude": numpy.array([408.0, numpy.nan], "f4")}
+        found = [dict(m) for m in gazhdor.messages(written(lambda out: out.define("record",
+            list(columns)).columns(columns)))]
+        self.assertEqual(found, [{"timestamp": SECONDS, "heart_rate": None, "altitude": 408.0},
+            {"timestamp": None, "heart_rate": 120, "altitude": None}])
+        for wrong in (numpy.array([1.0, numpy.inf]), numpy.array([1, 255]), numpy.array([-1, 2]),
+                numpy.array([1, 2**40]), numpy.array([True, False]), numpy.array([2**63], "u8"), numpy.array(["1"])):
             with self.assertRaises(gazhdor.WrongValue):
                 written(lambda out: out.define("record", "heart_rate").columns(heart_rate=wrong))
         with self.assertRaises(gazhdor.WrongValue) as caught:
-            written(lambda out: out.define("record", "timestamp").columns(timestamp=numpy.array(["2026-05-17", "1970-01-01"], "datetime64[ns]")))
+            written(lambda out: out.define("record", "timestamp").columns(timestamp=numpy.array(["2026-05-17",
+                "1970-01-01"], "datetime64[ns]")))
         self.assertEqual(caught.exception.row, 1)
 
     def test_wrong(self):
-        for columns, kind in (({"heart_rate": [1, 2], "power": [1]}, ValueError), ({"heart_rate": "12"}, TypeError), ({"heart_rate": 5}, TypeError), ({"hart_rate": [1]}, gazhdor.UnknownName)):
+        for columns, kind in (({"heart_rate": [1, 2], "power": [1]}, ValueError), ({"heart_rate": "12"}, TypeError),
+                ({"heart_rate": 5}, TypeError), ({"hart_rate": [1]}, gazhdor.UnknownName)):
             with self.assertRaises(kind):
                 written(lambda out: out.define("record", "heart_rate power").columns(columns))
         beats = ([1, 2, 300], 2), ([1, None, 255], 2), ([True], 0), ([5, "6"], 1)
-        others = ("power", [1.0, float("inf")], 1), ("altitude", [0.0, 1e300], 1), ("timestamp", [START, START.replace(tzinfo=None)], 1)
+        others = ("power", [1.0, float("inf")], 1), ("altitude", [0.0, 1e300], 1), ("timestamp",
+            [START, START.replace(tzinfo=None)], 1)
         for key, column, row in (*(("heart_rate", *column) for column in beats), *others):
             with self.assertRaises(gazhdor.WrongValue) as caught:
                 written(lambda out: out.define("record", [key]).columns({key: column}))

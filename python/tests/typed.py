@@ -6,9 +6,11 @@ from typing import Any, BinaryIO, Dict, Iterator, List, Optional, Tuple, Union
 import gazhdor
 
 def use(upload: BinaryIO, opened: io.BufferedReader) -> None:
-    sources: List[gazhdor.Source] = ["a", pathlib.Path("a"), b"a", bytearray(), memoryview(b""), io.BytesIO(), gzip.open("a"), upload, opened]
+    sources: List[gazhdor.Source] = [
+        "a", pathlib.Path("a"), b"a", bytearray(), memoryview(b""), io.BytesIO(), gzip.open("a"), upload, opened]
     answer: gazhdor.Answer = gazhdor.check(sources[0])
-    found: Tuple[bool, int, Optional[int], Optional[str], Optional[int]] = (answer.good, answer.files, answer.place, answer.reason, answer.row)
+    found: Tuple[bool, int, Optional[int]] = (answer.good, answer.files, answer.place)
+    why: Tuple[Optional[str], Optional[int]] = (answer.reason, answer.row)
     for row in gazhdor.table(upload, partial=True):
         when: Union[datetime.datetime, str, None] = row.timestamp
         beats: Optional[float] = row.heart_rate
@@ -18,10 +20,12 @@ def use(upload: BinaryIO, opened: io.BufferedReader) -> None:
     for message in gazhdor.messages(upload, only=["session", 20], partial=True):
         time: Union[datetime.datetime, str, None] = message.time
         seconds: float = message["total_elapsed_time"] + message[0, 2] + message.get(3, 0)
-        told: Tuple[Optional[str], Optional[float], Optional[int], int] = (message.name, message.speed, message.seconds, message.place)
+        told: Tuple[Optional[str], Optional[float]] = (message.name, message.speed)
+        where: Tuple[Optional[int], int] = (message.seconds, message.place)
         for field in message.fields:
             value: gazhdor.Value = field.value
-            of: Tuple[Optional[str], int, Optional[int], Optional[str]] = (field.name, field.number, field.developer, message.unit("a"))
+            of: Tuple[Optional[str], int, Optional[int]] = (field.name, field.number, field.developer)
+            unit: Optional[str] = message.unit("a")
     lists: Dict[gazhdor.Key, List[Any]] = gazhdor.lists(opened, "record", ["heart_rate", 3, (0, 1)])
     arrays: Dict[gazhdor.Key, Any] = gazhdor.columns(opened, 20, partial=True)
     with gazhdor.Stream("table") as stream:
@@ -38,16 +42,36 @@ def use(upload: BinaryIO, opened: io.BufferedReader) -> None:
     again: bytes = gazhdor.from_blocks(gazhdor.blocks(opened))
     with gazhdor.Writer(upload, names={140: "physiology"}) as out:
         dev: gazhdor.DeveloperField = out.describe("Form power", "watts", "uint16", native=("record", 7))
-        record: gazhdor.Definition = out.define("record", ["timestamp", 3, dev, (200, "uint16"), (201, "string", 16)], local=1)
+        record: gazhdor.Definition = out.define(
+            "record", ["timestamp", 3, dev, (200, "uint16"), (201, "string", 16)], local=1)
         record.write({dev: 5, 3: None}, timestamp=datetime.datetime.now(datetime.timezone.utc))
         record.columns({"timestamp": [1, 2]}, heart_rate=[None, 1.5])
         out.write("file_id", type=4)
         for event in gazhdor.messages(upload, everything=True):
             if isinstance(event, gazhdor.DefinitionMessage):
                 sizes: List[int] = [field.size for field in event.fields]
-            out.copy(event.replace(heart_rate=1).emptied(lambda field: field.base == 0x85) if isinstance(event, gazhdor.Message) else event)
+            if isinstance(event, gazhdor.Message):
+                out.copy(event.replace(heart_rate=1).emptied(lambda field: field.base == 0x85))
+            else:
+                out.copy(event)
 """
-WRONG = ("gazhdor.check(io.StringIO())", "gazhdor.check(5)", "gazhdor.from_csv(pathlib.Path())", "gazhdor.table('a').place", "row: str = gazhdor.check('a').row")
-WRONG += ("gazhdor.messages('a', only=1.5)", "gazhdor.lists('a', 'record', [1.5])", "next(gazhdor.messages('a')).place = 5", "gazhdor.columns('a')")
-WRONG += ("gazhdor.Writer(5)", "gazhdor.from_blocks('a')", "gazhdor.messages('a', only='lap', everything=True)", "gazhdor.Writer('a').copy(5)", "gazhdor.Writer(io.StringIO())")
-WRONG += ("gazhdor.Stream('rows')", "gazhdor.Stream('show', only=20)", "gazhdor.Stream('table').feed('a')", "number: int = gazhdor.Stream('table').finish()")
+WRONG = (
+    "gazhdor.check(io.StringIO())",
+    "gazhdor.check(5)",
+    "gazhdor.from_csv(pathlib.Path())",
+    "gazhdor.table('a').place",
+    "row: str = gazhdor.check('a').row",
+    "gazhdor.messages('a', only=1.5)",
+    "gazhdor.lists('a', 'record', [1.5])",
+    "next(gazhdor.messages('a')).place = 5",
+    "gazhdor.columns('a')",
+    "gazhdor.Writer(5)",
+    "gazhdor.from_blocks('a')",
+    "gazhdor.messages('a', only='lap', everything=True)",
+    "gazhdor.Writer('a').copy(5)",
+    "gazhdor.Writer(io.StringIO())",
+    "gazhdor.Stream('rows')",
+    "gazhdor.Stream('show', only=20)",
+    "gazhdor.Stream('table').feed('a')",
+    "number: int = gazhdor.Stream('table').finish()",
+)

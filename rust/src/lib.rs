@@ -2,7 +2,8 @@
 //! and back.
 //!
 //! Each function works on bytes in memory and keeps nothing, so any number of threads may call at once; a [`Stream`] takes bytes that
-//! come in pieces. What a call returns is proved: this crate is a wrapper of Gazhdor's library, which is linked in, for x86-64 and aarch64 Linux.
+//! come in pieces. This crate is a wrapper of Gazhdor's library, which is linked in, for x86-64 and aarch64 Linux. What the library's calls
+//! return is proved; the wrapper is tested.
 //!
 //! ```
 //! # fn main() -> Result<(), Box<dyn std::error::Error>> {

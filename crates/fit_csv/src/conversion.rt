@@ -63,7 +63,8 @@ pub(crate) fn convert<S: Source, K: Sink, R: Report>(
 }
 
 /// Writes a chain of FIT files as CSV text: the first line, and then the rows of each file. It takes pieces of at most 65,536 bytes
-/// from the source, to the end of the input or the first fault, and writes the rows of an event as soon as it is whole.
+/// from the source, to the end of the input or the first fault. It writes the rows of the events that a piece completes before it takes
+/// the next one, and within a piece whenever there are 32 KB of them.
 ///
 /// `Decode` where the input is no chain of files or the source failed: the first line and the rows of all events before the fault
 /// were written. `NoMemory` where an allocation failed, and then the rows of some first bytes were written, and memory was refused
@@ -90,7 +91,7 @@ pub fn to_csv<S: Source, K: Sink>(
 }
 
 /// Writes the table of a chain of FIT files as CSV text: the first line, and then a row for each record message. It takes pieces of
-/// at most 65,536 bytes from the source, to the end of the input or the first fault, and writes a row as soon as its message is whole.
+/// at most 65,536 bytes from the source, to the end of the input or the first fault, and writes rows when `to_csv` does.
 /// Its faults are those of `to_csv`.
 pub fn table<S: Source, K: Sink>(
     alloc: Global,

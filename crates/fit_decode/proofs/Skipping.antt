@@ -142,7 +142,7 @@ module _ {A : Type 0} (d : Fields A) (bytes piece : List ℕ) (after : Environme
       holds = holds_after;
     }
 
-  skips_none : used ≡ 0 → rs ≡ [] → after ≡ d.env → sum ≡ d.sum → position ≡ d.position → IsViable A chain_limit bytes → Holds d bytes
+  pub skips_none : used ≡ 0 → rs ≡ [] → after ≡ d.env → sum ≡ d.sum → position ≡ d.position → IsViable A chain_limit bytes → Holds d bytes
       → Skipped now bytes piece used rs
   skips_none none no_records learnt same there viable holds =
       let nothing : [] ≡ y = ap (λ n. take n piece) (sym none) in
@@ -235,12 +235,11 @@ pub message_skipped : {A : Type 0} (e after : Environment A) (p q : Position) (i
 message_skipped e after p q idle piece zero none same some = ([], λ room bytes h. inl (refl, refl, same refl, none refl))
 message_skipped e after p q idle piece (suc k) none same some = let m = some (omega arith) in (Message m.0 ∷ [], m.1)
 
--- ---- one that is all in the piece
+-- ---- where whole records of a data section have come
 
-module _ {A : Type 0} (d : Fields A) (bytes piece : List ℕ) (size : ℕ) (fs : List (FitFile A)) (h : FileHeader) (n : ℕ) (records : List (Record A))
-    (come : HasCome fs (at_data h n records []) bytes) (has : HasMessage (learn_all empty_environment records) piece size)
-    (large : size + 6 ≤ n - length (records_bytes empty_environment records)) where
-  data_here : (gs : List (FitFile A)) (g : FileHeader) (m : ℕ) (rs : List (Record A)) (part : List ℕ) → HasCome gs (at_data g m rs part) bytes
+module _ {A : Type 0} (d : Fields A) (bytes : List ℕ) (fs : List (FitFile A)) (h : FileHeader) (n : ℕ) (records : List (Record A))
+    (come : HasCome fs (at_data h n records []) bytes) where
+  pub data_here : (gs : List (FitFile A)) (g : FileHeader) (m : ℕ) (rs : List (Record A)) (part : List ℕ) → HasCome gs (at_data g m rs part) bytes
       → (rs ≡ records) × (part ≡ []) × (m - length (records_bytes empty_environment rs) ≡ n - length (records_bytes empty_environment records))
   data_here gs g m rs part there =
       let same = (one_place gs fs (at_data g m rs part) (at_data h n records []) bytes there come).1 in
@@ -248,27 +247,36 @@ module _ {A : Type 0} (d : Fields A) (bytes piece : List ℕ) (size : ℕ) (fs :
       let sizes : m ≡ n = cc in
       (whole, cc, λ i. sizes i - length (records_bytes empty_environment (whole i)))
 
-  -- where its bytes come to, the section is a data section
-  follows_at : (s : Section) → HoldsAt s d bytes → refusal_of s ≡ None
-      → (s ≡ InSection) × HasMessage d.env piece size × (d.in_progress ≡ None) × (size + 6 ≤ d.position.room)
-  follows_at (Latched reason) k fresh = absurd cc
-  follows_at InSection k fresh =
+  -- and more bytes of it are to come, the section is a data section
+  pub in_data_here : 0 < n - length (records_bytes empty_environment records) → (s : Section) → HoldsAt s d bytes → refusal_of s ≡ None
+      → (s ≡ InSection) × (d.env ≡ learn_all empty_environment records) × (d.in_progress ≡ None)
+      × (d.position.room ≡ n - length (records_bytes empty_environment records))
+  in_data_here some (Latched reason) k fresh = absurd cc
+  in_data_here some InSection k fresh =
       let (whole, no_part, left) = data_here k.files k.header k.size k.records k.part k.come in
       let room = k.size - length (records_bytes empty_environment k.records) in (
         refl,
-        subst (λ e. HasMessage e piece size) (ap (learn_all empty_environment) (sym whole) ∙ sym k.known) has,
+        k.known ∙ ap (learn_all empty_environment) whole,
         (idle_between_records d.env room k.part d.position d.in_progress k.in_record).1 no_part,
-        omega (arith, (records_in_progress d.env room k.part d.position d.in_progress k.in_record).2, ap length no_part, large, left),
+        omega (arith, (records_in_progress d.env room k.part d.position d.in_progress k.in_record).2, ap length no_part, left),
       )
-  follows_at ClosingSum k fresh = absurd (omega (arith, k.over, large, (data_here k.files k.header k.size k.records _ k.come).2))
-  follows_at Header k fresh = let same = (one_place k.files fs (at_header d.sum) (at_data h n records []) bytes k.come come).1 in absurd cc
+  in_data_here some ClosingSum k fresh = absurd (omega (arith, k.over, some, (data_here k.files k.header k.size k.records _ k.come).2))
+  in_data_here some Header k fresh = let same = (one_place k.files fs (at_header d.sum) (at_data h n records []) bytes k.come come).1 in absurd cc
+
+  -- A message that is all in the piece is in the room.
+  pub follows_at : (piece : List ℕ) (size : ℕ) → HasMessage (learn_all empty_environment records) piece size
+      → size + 6 ≤ n - length (records_bytes empty_environment records) → (s : Section) → HoldsAt s d bytes → refusal_of s ≡ None
+      → (s ≡ InSection) × HasMessage d.env piece size × (d.in_progress ≡ None) × (size + 6 ≤ d.position.room)
+  follows_at piece size has large s k fresh =
+      let (at, known, idle, left) = in_data_here (omega (arith, large)) s k fresh in
+      (at, subst (λ e. HasMessage e piece size) (sym known) has, idle, omega (arith, left, large))
 
 pub message_follows : {A : Type 0} (d : Inside A) → IsSoundDecoder d → (old : Seen) → seen_in d ≡ old
     → old.refusal ≡ None → (piece : List ℕ) (size : ℕ) → MessageFollows A old.bytes piece size
     → (d.stage.section ≡ InSection) × HasMessage d.env piece size × (d.in_progress ≡ None) × (size + 6 ≤ d.position.room)
 message_follows {A} d k old seen none piece size (fs, h, n, records, come, has, large) =
-    follows_at (fields_inside d) d.history.items piece size fs h n records
-    (subst (HasCome fs (at_data h n records [])) (sym (ap (λ (o : Seen). o.bytes) seen)) come) has large d.stage.section
+    follows_at (fields_inside d) d.history.items fs h n records
+    (subst (HasCome fs (at_data h n records [])) (sym (ap (λ (o : Seen). o.bytes) seen)) come) piece size has large d.stage.section
     k.holds (ap (λ (o : Seen). o.refusal) seen ∙ none)
 
 -- ---- what a caller sees

@@ -1,17 +1,19 @@
 -- What a caller of a decoder sees: the bytes fed that weren't refused, and the refusal if there was one.
-use Rattle.std.specs.Prelude.{◌≡◌, ℕ, ◌+◌, ◌-◌, ◌<◌, ◌≤◌, List, [], ◌++◌, Option, Some, None, take, length, slice_index}
+use Rattle.std.specs.Prelude.{◌≡◌, ◌⊎◌, ℕ, ◌+◌, ◌-◌, ◌<◌, ◌≤◌, List, [], ◌∷◌, ◌++◌, Option, Some, None, take, drop, length, map, slice_index}
 use Rattle.fit_frame.specs.declared.reason.Reason.{Reason}
 use Rattle.fit_frame.specs.declared.header.Header.{Header}
 use Rattle.fit_record.specs.declared.file.FitFile.{FitFile}
 use Rattle.fit_record.specs.declared.message.Record.{Record}
+use Rattle.fit_record.specs.declared.message.Record.TheVariants.{Values as Data}
+use Rattle.fit_record.specs.declared.message.Values.{Values}
 use Rattle.fit_record.specs.Environment.{empty_environment, learn_all}
-use Rattle.fit_record.specs.Records.{records_bytes}
+use Rattle.fit_record.specs.Records.{IsRecord, records_bytes}
 use Rattle.fit_record.specs.Files.{chain_limit, IsViable}
-use Rattle.fit_step.specs.Skipping.{HasMessage}
+use Rattle.fit_step.specs.Skipping.{HasMessage, Learns}
 use Rattle.fit_chain.specs.Progress.{at_data, HasCome}
 use Rattle.fit_chain.specs.declared.event.Event.{Event as Answer}
 use Rattle.fit_chain.specs.declared.event.Event.TheVariants as answers
-use Rattle.fit_chain.specs.Events.{Event, header, item, file_end}
+use Rattle.fit_chain.specs.Events.{Event, header, item, file_end, AreEvents, known_after}
 use Rattle.fit_chain.specs.Pieces.{Quiet}
 use Rattle.fit_chain.specs.Memory.{MayTakeMemory}
 use Rattle.fit_chain.specs.Refusals.{IsRefused}
@@ -55,3 +57,28 @@ abbrev pub MessageFollows : Type 0 → List ℕ → List ℕ → ℕ → Type 0
 MessageFollows A bytes piece size =
     (fs : List (FitFile A)) × (h : Header) × (n : ℕ) × (records : List (Record A)) × HasCome fs (at_data h n records []) bytes
     × HasMessage (learn_all empty_environment records) piece size × (size + 6 ≤ n - length (records_bytes empty_environment records))
+
+-- No byte is used, and there are no records. Or no byte was refused, whole records of a data section have come, and the first bytes of the
+-- piece, that many, are those of these records, of which nothing is learned; at least six bytes of the section are to come after them.
+abbrev pub MessagesFollow : (A : Type 0) → Seen → List ℕ → ℕ → List (Record A) → Type 0
+MessagesFollow A seen piece used records =
+    ((used ≡ 0) × (records ≡ []))
+    ⊎ ((seen.refusal ≡ None) × (fs : List (FitFile A)) × (h : Header) × (n : ℕ) × (before : List (Record A))
+    × HasCome fs (at_data h n before []) seen.bytes × (used ≤ length piece)
+    × Learns (learn_all empty_environment before) (learn_all empty_environment before) (take used piece) records
+    × (used + 6 ≤ n - length (records_bytes empty_environment before)))
+
+-- Messages are looked at ahead in this piece, after what was fed to a decoder, and were found in the first bytes of it, that many.
+pub record LookedAhead : Type 0 where
+  pub fed : Seen
+  pub piece : List ℕ
+  pub used : ℕ
+
+-- The next bytes of the piece, that many, are those of a data message, by what is known after the records before it, which are any that
+-- the bytes before it may be; and it follows these.
+abbrev pub NextMessage : (A : Type 0) → LookedAhead → ℕ → Type 0
+NextMessage A a size =
+    (v : Values A) × ((records : List (Record A)) → MessagesFollow A a.fed a.piece a.used records
+    → MessagesFollow A a.fed a.piece (a.used + size) (records ++ Data v ∷ [])
+    × ((events : List (Event A)) → AreEvents a.fed.bytes events
+    → IsRecord (known_after (events ++ map item records)) (Data v) (take size (drop a.used a.piece))))

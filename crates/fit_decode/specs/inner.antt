@@ -7,3 +7,4 @@ pub mod Feeds
 pub mod Kept
 pub mod Skips
 pub mod Invariant
+pub mod Aheads

@@ -13,11 +13,13 @@ ghost use Rattle.fit_chain.specs.Pieces.{Quiet, Least};
 ghost use Rattle.fit_chain.specs.Checks.{AreChain};
 ghost use Rattle.fit_decode.specs.inner.Feeds.{Feeds};
 
+mod ahead;
 mod whole;
 
 use crate::need::bytes_to_come;
 use crate::section::{Part, Section, Stage, cover, take_event};
 use crate::{Event, Fault, Fed};
+pub use ahead::Ahead;
 use fit_frame::{HeadReader, Header, Reason};
 use fit_history::History;
 use fit_record::{Env, Record};

@@ -10,7 +10,7 @@ mod section;
 mod source;
 
 pub use check::check_bytes;
-pub use decoder::Decoder;
+pub use decoder::{Ahead, Decoder};
 pub use fit_chain::{Event, Fault, Fed, laws};
 pub use readers::{PIECE_SIZE, Reading, read_chain, read_one};
 pub use source::{CutSource, ReadSource, Source, SourceFailed};

@@ -23,8 +23,8 @@ use fit_frame::{Header, HeaderSum};
 use fit_profile::Stream;
 use fit_profile::laws::looking_back_is_learning;
 use fit_record::{MessageDef, Record, Values};
-use fit_report::Report;
 use fit_report::laws::{heard_are_few, heard_records_fit};
+use fit_report::{MessageTaker, Report, take_messages};
 use std::alloc::{AllocError, Global};
 use std::marker::Model;
 use std::mem;
@@ -354,11 +354,20 @@ impl Report for MessagesReport {
         piece: &[u8],
         text: &mut Vec<u8>,
     ) -> Result<usize, AllocError> {
-        let used = decoder.skip_message(piece);
-        if used == 0 {
-            return Ok(0);
-        }
-        self.take_message(text, piece, used)?;
-        Ok(used)
+        take_messages(self, decoder, piece, text)
+    }
+}
+
+impl MessageTaker for MessagesReport {
+    ghost use Rattle.fit_messages.specs.Blocks.{event_block};
+    ghost use Rattle.fit_messages.specs.Kept.{kept_heard};
+
+    ghost has_heard = { λ r heard. r ≡ kept_heard heard };
+
+    ghost line = { event_block };
+
+    #[inline(always)]
+    fn take(&mut self, piece: &[u8], size: usize, text: &mut Vec<u8>) -> Result<(), AllocError> {
+        self.take_message(text, piece, size)
     }
 }

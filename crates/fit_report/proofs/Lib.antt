@@ -7,4 +7,5 @@ pub mod Chains
 pub mod Records
 pub mod Skipped
 pub mod SkippedMessages
+pub mod TakenMessages
 pub mod Documents

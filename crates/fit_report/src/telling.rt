@@ -25,7 +25,7 @@ use std::marker::Model;
 const KEPT_TEXT: usize = 4_096;
 
 /// What is skipped is put as soon as its text has that many bytes.
-const FULL_TEXT: usize = 32_768;
+pub(crate) const FULL_TEXT: usize = 32_768;
 
 /// What tells the events of a chain's bytes to a reporter as they come, in pieces of any length, and puts its text in a sink. It
 /// is the same reporter in each call, and has heard nothing at first; the sink may be another one in each call.

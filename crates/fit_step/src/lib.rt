@@ -28,5 +28,5 @@ pub(crate) use partial::Partial;
 pub(crate) use phase::{DefinitionPhase, Phase};
 pub use position::Position;
 pub use record_reader::{read_in_place, read_message, read_whole_definition};
-pub use skipping::{skip_in_section, skip_message_in_section};
+pub use skipping::{size_ahead, skip_in_section, skip_message_in_section};
 pub use stop::Stop;

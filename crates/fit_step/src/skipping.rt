@@ -3,14 +3,14 @@ ghost use Rattle.std.specs.Prelude.{◌≡◌, ℕ, ◌<◌, ◌≤◌, ◌+◌,
 ghost use Rattle.fit_record.specs.declared.message.Values.{Values};
 ghost use Rattle.fit_record.specs.declared.message.Record.{Record};
 ghost use Rattle.fit_record.specs.declared.message.Record.TheVariants.{Values as Data};
-ghost use Rattle.fit_step.specs.Skipping.{size_to_skip, AreSizesToSkip, HeadsMessage, HasMessage, IsSkipped, AreSkipped, SkipsInSection};
+ghost use Rattle.fit_step.specs.Skipping.{size_to_skip, AreSizesToSkip, HeadsMessage, HasMessage, IsSkipped, AreSkipped, Learns, SkipsInSection};
 
 use crate::Position;
 use crate::by_bytes::learn_message;
 use crate::header::{has_reserved_bit, is_definition, local_type};
 use crate::read_definition::{definition_bytes, read_fields, with_fields};
 use crate::repeated::is_known;
-use crate::whole::plain_message;
+use crate::whole::{next_message, plain_message};
 use fit_record::{Env, FIELD_DESCRIPTION, Record};
 use std::alloc::Allocator;
 
@@ -188,6 +188,23 @@ pub fn skip_in_section<A: Allocator + Copy>(
     let (used, count) = skip_records(alloc, env, front);
     position.room -= used as u32;
     (used, count)
+}
+
+/// How many bytes the data message has that begins the piece, where a record begins, it is no field description, and at least six
+/// bytes of the data section are to come after it, or else 0. Nothing is learned of it.
+#[inline(always)]
+pub fn size_ahead<A: Allocator>(env: &Env<A>, room: u32, piece: &[u8]) -> usize
+    ensures within { result ≤ length piece.now }
+    ensures message { 0 < result → (result + 6 ≤ room)
+        × (v : Values A) × Learns env.now env.now (take result piece.now) (Data v ∷ []) }
+    // One that is all in the piece is found, unless it is a field description.
+    ensures whole { (size : ℕ) → HasMessage env.now piece.now size → size + 6 ≤ room
+        → result ≡ size }
+{
+    match next_message(env, room, piece) {
+        Some(message) => 1 + message.body.len(),
+        None => 0,
+    }
 }
 
 /// Skips the data message at the front of the piece, where it is no field description, a record begins, and at least six bytes of the data

@@ -36,9 +36,32 @@ pub(crate) fn whole_message<A: Allocator + Copy>(
     Some((values, 1 + message.body.len()))
 }
 
-/// The data message that begins the piece, where no byte of a record has come, all its bytes stand there, it is no field description,
-/// and six bytes or more of the data section are to come after it: nothing is learned of it, and records can fill them, whatever is
-/// defined.
+/// The data message that begins the piece, where a record begins, all its bytes stand there, it is no field description, and six bytes
+/// or more of the data section are to come after it: nothing is learned of it, and records can fill them, whatever is defined.
+#[inline(always)]
+pub(crate) fn next_message<'a, A: Allocator>(
+    env: &'a Env<A>,
+    room: u32,
+    piece: &'a [u8],
+) -> Option<MessageBytes<'a, A>>
+    ensures plain { IfSome result (IsPlain env.now room None piece.now) }
+    ensures whole { (size : ℕ) → HasMessage env.now piece.now size → size + 6 ≤ room
+        → IsSomeAnd result (λ m. 1 + length m.body.now ≡ size) }
+{
+    let Some(message) = env.message_bytes(piece) else {
+        return None;
+    };
+    if message.defined.definition.global == FIELD_DESCRIPTION {
+        return None;
+    }
+    let used = 1 + message.body.len();
+    if used + 6 > room as usize {
+        return None;
+    }
+    Some(message)
+}
+
+/// The same, where no byte of a record has come.
 #[inline(always)]
 pub(crate) fn plain_message<'a, A: Allocator>(
     env: &'a Env<A>,
@@ -51,20 +74,9 @@ pub(crate) fn plain_message<'a, A: Allocator>(
         → size + 6 ≤ room → IsSomeAnd result (λ m. 1 + length m.body.now ≡ size) }
 {
     match in_progress {
-        Some(_) => return None,
-        None => {}
+        Some(_) => None,
+        None => next_message(env, room, piece),
     }
-    let Some(message) = env.message_bytes(piece) else {
-        return None;
-    };
-    if message.defined.definition.global == FIELD_DESCRIPTION {
-        return None;
-    }
-    let used = 1 + message.body.len();
-    if used + 6 > room as usize {
-        return None;
-    }
-    Some(message)
 }
 
 /// The definition message without developer fields that begins the piece, where no byte of a record has come, all its bytes stand there,

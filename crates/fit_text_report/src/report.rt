@@ -21,7 +21,7 @@ use fit_encode::spell;
 use fit_frame::Header;
 use fit_profile::Stream;
 use fit_record::{MessageBytes, MessageDef, Record};
-use fit_report::Report;
+use fit_report::{MessageTaker, Report, take_messages};
 use std::alloc::{AllocError, Global};
 use std::marker::Model;
 
@@ -160,12 +160,18 @@ impl<M: TextMaker> Report for TextReport<M> {
         piece: &[u8],
         text: &mut Vec<u8>,
     ) -> Result<usize, AllocError> {
-        let used = decoder.skip_message(piece);
-        if used == 0 {
-            return Ok(0);
-        }
-        let (message, _) = piece.split_at(used);
-        self.teller.take_message(text, message)?;
-        Ok(used)
+        take_messages(self, decoder, piece, text)
+    }
+}
+
+impl<M: TextMaker> MessageTaker for TextReport<M> {
+    ghost has_heard = { λ r heard. r ≡ kept_events heard };
+
+    ghost line = { M.line };
+
+    #[inline(always)]
+    fn take(&mut self, piece: &[u8], size: usize, text: &mut Vec<u8>) -> Result<(), AllocError> {
+        let (message, _) = piece.split_at(size);
+        self.teller.take_message(text, message)
     }
 }

@@ -18,7 +18,7 @@ pub mod laws;
 // Reading: from a `Source`, or as bytes come. A `Fault` says where and why it ended.
 pub use fit_chain::{Event, Fault, Fed};
 pub use fit_decode::{
-    CutSource, Decoder, PIECE_SIZE, ReadSource, Reading, Source, SourceFailed, check_bytes,
+    Ahead, CutSource, Decoder, PIECE_SIZE, ReadSource, Reading, Source, SourceFailed, check_bytes,
     read_chain, read_one,
 };
 pub use fit_frame::Reason;

@@ -12,7 +12,7 @@ use fit_frame::Header;
 use fit_record::Record;
 use std::alloc::Allocator;
 
-/// The most bytes that a reader takes at once.
+/// The most bytes that a reader of files takes at once. A report takes more, up to 65,536.
 pub const PIECE_SIZE: usize = 4096;
 
 /// Takes at most `wanted` bytes into the front of the buffer.

@@ -1,31 +1,7 @@
-use Rattle.fit_step.proofs.Common.{◌≡◌, ◌+◌, length, ◌∙◌, subst, arith, None, Some, defined_at, length-take-le, ne_eqb, Data, sym}
-use Rattle.fit_record.specs.MessageBytes.{message_in}
-use Rattle.fit_step.proofs.PlainMessages.{stands_there, describes_nothing_of, message_found}
-use Rattle.fit_step.proofs.SkippedRecords.{learns_nothing, plain_stands}
+use Rattle.fit_step.proofs.Common.{sym, subst, ◌∙◌}
+use Rattle.std.specs.Prelude.{IfSome}
+use Rattle.fit_step.specs.inner.Whole.{IsPlain}
 use Rattle.fit_step.proofs.whole.plain_message.Goals as goal
-
-pub returns : goal.returns
-returns g c =
-    let e = c.args.env.now in
-    let piece = c.args.piece.now in
-    let m = c.in-Some-message_bytes.message in
-    let told = c.in-Some-message_bytes.ensures in
-    let used = 1 + length m.body.now in
-    let other = c.if-message-eq-FIELD_DESCRIPTION.false in
-    record {
-      plain = record {
-        idle = c.in-None.is;
-        sound = told.sound;
-        size = told.size;
-        stands = plain_stands e c.args.room piece (Data (message_in m)) used (omega arith) told.within (omega (arith, c.if-used-room.false)) told.spelled;
-        left = omega (arith, c.if-used-room.false);
-        message = stands_there e (message_in m) m.defined.now told.defined used piece other told.within told.spelled;
-        learned = learns_nothing e (message_in m) m.defined.now told.defined (ne_eqb m.defined.now.definition.global 206 other);
-      };
-      whole = λ idle size has large.
-          let (same, long) = message_found e piece size (Some m) has told.found in
-          long ∙ length-take-le size piece has.1;
-    }
 
 pub returns-in-Some : goal.returns-in-Some
 returns-in-Some g c = record {
@@ -33,27 +9,8 @@ returns-in-Some g c = record {
   whole = λ idle size has large. absurd (let some = sym c.in-Some.is ∙ idle in cc);
 }
 
-pub returns-in_default : goal.returns-in_default
-returns-in_default g c = record {
-  plain = tt;
-  whole = λ idle size has large. absurd (message_found c.args.env.now c.args.piece.now size None has c.in_default.ensures.found);
-}
-
-pub returns-then-message-eq-FIELD_DESCRIPTION : goal.returns-then-message-eq-FIELD_DESCRIPTION
-returns-then-message-eq-FIELD_DESCRIPTION g c = record {
-  plain = tt;
-  whole = λ idle size has large.
-      let m = c.in-Some-message_bytes.message in
-      let e = c.args.env.now in
-      let (same, long) = message_found e c.args.piece.now size (Some m) has c.in-Some-message_bytes.ensures.found in
-      absurd (describes_nothing_of e has.0 m.defined.now (subst (λ v. defined_at e v.local ≡ Some m.defined.now) same c.in-Some-message_bytes.ensures.defined)
-      has.3 c.if-message-eq-FIELD_DESCRIPTION.true);
-}
-
-pub returns-then-used-room : goal.returns-then-used-room
-returns-then-used-room g c = record {
-  plain = tt;
-  whole = λ idle size has large.
-      let (same, long) = message_found c.args.env.now c.args.piece.now size (Some c.in-Some-message_bytes.message) has c.in-Some-message_bytes.ensures.found in
-      absurd (omega (arith, large, long, length-take-le size c.args.piece.now has.1, c.if-used-room.true));
+pub returns-in-None : goal.returns-in-None
+returns-in-None g c = record {
+  plain = subst (λ o. IfSome c.next_message.result (IsPlain c.args.env.now c.args.room o c.args.piece.now)) (sym c.in-None.is) c.next_message.ensures.plain;
+  whole = λ idle size has large. c.next_message.ensures.whole size has large;
 }
