@@ -43,7 +43,6 @@ fn take_block(state: &mut [u32; 8], block: &[u8]) {
 }
 
 /// The SHA-256 of some bytes, as 64 hexadecimal digits.
-#[must_use] 
 pub fn hexadecimal(bytes: &[u8]) -> String {
     let mut state = START;
     let mut padded = bytes.to_vec();

@@ -67,7 +67,7 @@ impl<'a> Definition<'a> {
     }
 
     /// That of the message of a number, without fields.
-    #[must_use] 
+    #[must_use]
     pub fn numbered(message: u16) -> Definition<'static> {
         let mut block = vec![0; AT_DEFINITION_NAME];
         block[AT_KIND] = DEFINITION;
@@ -126,21 +126,21 @@ impl<'a> Definition<'a> {
 
     /// The same of a fixed local message type, 0 to 15, in the place of one that the writer chooses. Of a larger number the low four bits
     /// count.
-    #[must_use] 
+    #[must_use]
     pub fn at(mut self, local: u8) -> Definition<'a> {
         self.block.to_mut()[AT_DEFINITION_LOCAL] = local & 15;
         Definition { is_free: false, ..self }
     }
 
     /// The same with numbers in big endian in the file.
-    #[must_use] 
+    #[must_use]
     pub fn big_endian(mut self) -> Definition<'a> {
         self.block.to_mut()[AT_DEFINITION_ARCHITECTURE] = BIG_ENDIAN;
         self
     }
 
     /// A message of this definition, in which no field has a value.
-    #[must_use] 
+    #[must_use]
     pub fn message(&self) -> Draft<'_> {
         let length = four(&self.block, AT_DEFINITION_MESSAGE_LENGTH).max(AT_MESSAGE_ITEMS as u32);
         let mut block = vec![0; length as usize];
@@ -157,25 +157,25 @@ impl<'a> Definition<'a> {
     }
 
     /// The global message number, as 20 of `record`.
-    #[must_use] 
+    #[must_use]
     pub fn number(&self) -> u16 {
         two(&self.block, AT_DEFINITION_MESSAGE)
     }
 
     /// The local message type; 0 where the writer chooses it.
-    #[must_use] 
+    #[must_use]
     pub fn local(&self) -> u8 {
         self.block[AT_DEFINITION_LOCAL] & 15
     }
 
     /// Whether numbers are in big endian in the file.
-    #[must_use] 
+    #[must_use]
     pub fn is_big_endian(&self) -> bool {
         self.block[AT_DEFINITION_ARCHITECTURE] == BIG_ENDIAN
     }
 
     /// Its fields, and then its developer fields, without values.
-    #[must_use] 
+    #[must_use]
     pub fn fields(&self) -> Fields<'_> {
         Fields::new(&self.block, &[], self.names.map(|names| (names, self.number())))
     }

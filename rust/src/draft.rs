@@ -209,7 +209,7 @@ impl<'a> Draft<'a> {
     }
 
     /// All fields as they are now, in the order of the definition, and then all developer fields.
-    #[must_use] 
+    #[must_use]
     pub fn fields(&self) -> Fields<'_> {
         self.message().fields()
     }

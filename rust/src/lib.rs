@@ -233,7 +233,7 @@ pub fn from_blocks(blocks: &[u8]) -> Result<Bytes, BlocksFault> {
 /// ```
 /// assert_eq!(gazhdor::version(), env!("CARGO_PKG_VERSION"));
 /// ```
-#[must_use] 
+#[must_use]
 pub fn version() -> &'static str {
     library::version()
 }
