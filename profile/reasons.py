@@ -50,6 +50,7 @@ pub(crate) const {constant}: [{type}; {count}] = [
 
 impl {type} {
     /// What it says of the {what}, as `the {what} {example}`.
+    #[must_use]
     pub fn explanation(self) -> &'static str {
         match self {
 {arms}        }

@@ -55,26 +55,31 @@ pub(crate) struct BaseRow {
 
 impl BaseType {
     /// That of a code, as [`Field::base_type`](crate::Field::base_type) gives it.
+    #[must_use]
     pub fn of(code: u8) -> Option<BaseType> {
         BASE_TYPES.iter().map(|row| row.base_type).find(|&of| of.code() == code)
     }
 
     /// That of a name, as `uint8`.
+    #[must_use]
     pub fn named(name: &str) -> Option<BaseType> {
         BASE_TYPES.iter().find(|row| row.name == name).map(|row| row.base_type)
     }
 
     /// Its code in definition messages.
+    #[must_use]
     pub fn code(self) -> u8 {
         self as u8
     }
 
     /// Its name in the FIT protocol, as `uint8`.
+    #[must_use]
     pub fn name(self) -> &'static str {
         self.row().name
     }
 
     /// How many bytes an item has.
+    #[must_use]
     pub fn width(self) -> u8 {
         self.row().width
     }

@@ -41,6 +41,7 @@ pub(crate) const BLOCK_REASONS: [BlockReason; 10] = [
 
 impl BlockReason {
     /// What it says of the block, as `the block has a time offset of 32 to 254`.
+    #[must_use]
     pub fn explanation(self) -> &'static str {
         match self {
             BlockReason::Cut => {

@@ -14,8 +14,8 @@ use crate::numbers::{
     AT_MESSAGE_ITEMS, AT_MESSAGE_LOCAL, AT_MESSAGE_OFFSET, AT_MESSAGE_TIME, BIG_ENDIAN, DEFINITION, MESSAGE, NO_OFFSET,
     NO_TIME, SAYS_DEVELOPERS,
 };
-use crate::unfit::{label, Unfit};
-use crate::usual;
+use crate::profile;
+use crate::value_error::{label, Unfit};
 use std::borrow::Cow;
 use std::fmt::{self, Debug, Formatter};
 
@@ -50,7 +50,7 @@ impl<'a> Definition<'a> {
     /// [`with`](Definition::with) takes.
     pub fn of(message: &str, fields: &[&str]) -> Result<Definition<'static>, Unfit> {
         let no_message = || Unfit::NoMessage { message: message.to_string() };
-        let made = Definition::numbered(usual::message_named(message).ok_or_else(no_message)?);
+        let made = Definition::numbered(profile::message_named(message).ok_or_else(no_message)?);
         fields.iter().try_fold(made, |made, field| made.with(field, 1))
     }
 
@@ -61,17 +61,18 @@ impl<'a> Definition<'a> {
     /// As for [`of`](Definition::of).
     pub fn by(names: &'a Names, message: &str, fields: &[&str]) -> Result<Definition<'a>, Unfit> {
         let no_message = || Unfit::NoMessage { message: message.to_string() };
-        let number = names.message_named(message).or_else(|| usual::message_named(message));
+        let number = names.message_named(message).or_else(|| profile::message_named(message));
         let made = Definition { names: Some(names), ..Definition::numbered(number.ok_or_else(no_message)?) };
         fields.iter().try_fold(made, |made, field| made.with(field, 1))
     }
 
     /// That of the message of a number, without fields.
+    #[must_use]
     pub fn numbered(message: u16) -> Definition<'static> {
         let mut block = vec![0; AT_DEFINITION_NAME];
         block[AT_KIND] = DEFINITION;
         put(&mut block, AT_DEFINITION_MESSAGE, &message.to_le_bytes());
-        block.extend(in_text(&usual::message_name(message)));
+        block.extend(in_text(&profile::message_name(message)));
         let length = block.len() as u32;
         put(&mut block, AT_LENGTH, &length.to_le_bytes());
         put(&mut block, AT_DEFINITION_MESSAGE_LENGTH, &(AT_MESSAGE_ITEMS as u32).to_le_bytes());
@@ -103,7 +104,7 @@ impl<'a> Definition<'a> {
     ///
     /// [`Unfit::Full`] where there are 255 fields, or it has more than 255 bytes.
     pub fn with_field(self, number: u8, base_type: BaseType, items: u8) -> Result<Definition<'a>, Unfit> {
-        let named = usual::field(self.number(), number);
+        let named = profile::field(self.number(), number);
         let entry = Entry { number, developer: None, base_type, items, named };
         let position = self.counts().0;
         self.with_entry(entry, position)
@@ -125,18 +126,21 @@ impl<'a> Definition<'a> {
 
     /// The same of a fixed local message type, 0 to 15, in the place of one that the writer chooses. Of a larger number the low four bits
     /// count.
+    #[must_use]
     pub fn at(mut self, local: u8) -> Definition<'a> {
         self.block.to_mut()[AT_DEFINITION_LOCAL] = local & 15;
         Definition { is_free: false, ..self }
     }
 
     /// The same with numbers in big endian in the file.
+    #[must_use]
     pub fn big_endian(mut self) -> Definition<'a> {
         self.block.to_mut()[AT_DEFINITION_ARCHITECTURE] = BIG_ENDIAN;
         self
     }
 
     /// A message of this definition, in which no field has a value.
+    #[must_use]
     pub fn message(&self) -> Draft<'_> {
         let length = four(&self.block, AT_DEFINITION_MESSAGE_LENGTH).max(AT_MESSAGE_ITEMS as u32);
         let mut block = vec![0; length as usize];
@@ -153,21 +157,25 @@ impl<'a> Definition<'a> {
     }
 
     /// The global message number, as 20 of `record`.
+    #[must_use]
     pub fn number(&self) -> u16 {
         two(&self.block, AT_DEFINITION_MESSAGE)
     }
 
     /// The local message type; 0 where the writer chooses it.
+    #[must_use]
     pub fn local(&self) -> u8 {
         self.block[AT_DEFINITION_LOCAL] & 15
     }
 
     /// Whether numbers are in big endian in the file.
+    #[must_use]
     pub fn is_big_endian(&self) -> bool {
         self.block[AT_DEFINITION_ARCHITECTURE] == BIG_ENDIAN
     }
 
     /// Its fields, and then its developer fields, without values.
+    #[must_use]
     pub fn fields(&self) -> Fields<'_> {
         Fields::new(&self.block, &[], self.names.map(|names| (names, self.number())))
     }
@@ -185,9 +193,9 @@ impl<'a> Definition<'a> {
     fn looked_up(&self, field: &str) -> Option<(u8, Option<BaseType>)> {
         let message = self.number();
         let own = self.names.and_then(|names| names.field_named(message, field));
-        let number = own.or_else(|| usual::field_named(message, field))?;
+        let number = own.or_else(|| profile::field_named(message, field))?;
         let base_type = self.names.and_then(|names| names.base_type(message, number));
-        Some((number, base_type.or_else(|| usual::base_type(message, number))))
+        Some((number, base_type.or_else(|| profile::base_type(message, number))))
     }
 
     /// The same with one entry more, at a position among all.

@@ -2,7 +2,7 @@
 use crate::base_type::BaseType;
 use crate::definition::Definition;
 use crate::draft::Draft;
-use crate::unfit::Unfit;
+use crate::value_error::Unfit;
 
 /// A developer field: what the description of it says, which a file has before the first definition with it.
 ///

@@ -6,7 +6,7 @@ use crate::message::{Fields, Message};
 use crate::names::Names;
 use crate::numbers::{AT_MESSAGE_OFFSET, NO_OFFSET};
 use crate::time::Time;
-use crate::unfit::{label, Unfit};
+use crate::value_error::{label, Unfit};
 use std::fmt::{self, Debug, Formatter};
 
 /// How many bytes an item has.
@@ -209,6 +209,7 @@ impl<'a> Draft<'a> {
     }
 
     /// All fields as they are now, in the order of the definition, and then all developer fields.
+    #[must_use]
     pub fn fields(&self) -> Fields<'_> {
         self.message().fields()
     }

@@ -78,6 +78,7 @@ pub struct Header<'a> {
 impl Header<'static> {
     /// One of 14 bytes with its checksum, or of 12 bytes without one: with the version of the protocol, as 0x20 for 2.0, and the version of
     /// the profile that the program knows.
+    #[must_use]
     pub fn new(protocol: u8, profile: u16, checksum: Checksum) -> Header<'static> {
         let size = if checksum == Checksum::None { 12 } else { 14 };
         let mut block = vec![0; AT_HEADER_REST];
@@ -93,21 +94,25 @@ impl Header<'static> {
 
 impl Header<'_> {
     /// How many bytes it has.
+    #[must_use]
     pub fn size(&self) -> u8 {
         self.block[AT_HEADER_SIZE]
     }
 
     /// The version of the protocol.
+    #[must_use]
     pub fn protocol(&self) -> u8 {
         self.block[AT_HEADER_PROTOCOL]
     }
 
     /// The version of the profile.
+    #[must_use]
     pub fn profile(&self) -> u16 {
         two(&self.block, AT_HEADER_PROFILE)
     }
 
     /// What its checksum is.
+    #[must_use]
     pub fn checksum(&self) -> Checksum {
         match self.block[AT_HEADER_SUM] {
             NO_SUM => Checksum::None,

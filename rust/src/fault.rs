@@ -35,6 +35,7 @@ pub enum Fault {
 
 impl Fault {
     /// The place among the bytes, counted from 0, where they are refused or end too soon.
+    #[must_use]
     pub fn place(&self) -> Option<u64> {
         match *self {
             Fault::Refused { place, .. } | Fault::Truncated { place } => Some(place),
@@ -43,6 +44,7 @@ impl Fault {
     }
 
     /// Why a byte is refused.
+    #[must_use]
     pub fn reason(&self) -> Option<Reason> {
         match *self {
             Fault::Refused { reason, .. } => Some(reason),

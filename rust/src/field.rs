@@ -1,12 +1,12 @@
 //! A field of a message, and its values.
 use crate::blocks::{eight, four, some, text, two, up_to_zero};
+use crate::measure::Measure;
 use crate::names::{Named, Names};
 use crate::numbers::{
     AT_ENTRY_BASE_TYPE, AT_ENTRY_COUNT, AT_ENTRY_DECIMALS, AT_ENTRY_DEVELOPER, AT_ENTRY_INDEX, AT_ENTRY_INVALID,
     AT_ENTRY_ITEMS, AT_ENTRY_KIND, AT_ENTRY_NAME, AT_ENTRY_NUMBER, AT_ENTRY_OFFSET, AT_ENTRY_SCALE, AT_ENTRY_UNIT,
     AT_ENTRY_WIDTH, BYTES, FLOAT, SIGNED, STRING,
 };
-use crate::steps::Measure;
 use std::fmt::{self, Debug, Formatter};
 use std::str;
 
@@ -88,6 +88,7 @@ impl<'a> Field<'a> {
     }
 
     /// Its name in the profile, as `heart_rate`, or that which the file gives to a developer field.
+    #[must_use]
     pub fn name(&self) -> Option<&'a str> {
         let named = self.named.and_then(|named| named.name.as_deref());
         named.or_else(|| text(self.entry, AT_ENTRY_NAME))
@@ -106,48 +107,57 @@ impl<'a> Field<'a> {
     }
 
     /// Its number in the message.
+    #[must_use]
     pub fn number(&self) -> u8 {
         self.entry[AT_ENTRY_NUMBER]
     }
 
     /// Of a developer field its developer data index.
+    #[must_use]
     pub fn developer(&self) -> Option<u8> {
         (self.entry[AT_ENTRY_DEVELOPER] != 0).then(|| self.entry[AT_ENTRY_INDEX])
     }
 
     /// Its unit, as `m/s`.
+    #[must_use]
     pub fn unit(&self) -> Option<&'a str> {
         let named = self.named.and_then(|named| named.unit.as_deref());
         named.or_else(|| text(self.entry, two(self.entry, AT_ENTRY_UNIT).into()))
     }
 
     /// The code of its base type; of a developer field, that which the file says of it.
+    #[must_use]
     pub fn base_type(&self) -> u8 {
         self.entry[AT_ENTRY_BASE_TYPE]
     }
 
     /// How many items it has.
+    #[must_use]
     pub fn count(&self) -> usize {
         self.entry[AT_ENTRY_COUNT].into()
     }
 
     /// How many bytes an item has.
+    #[must_use]
     pub fn width(&self) -> usize {
         self.entry[AT_ENTRY_WIDTH].into()
     }
 
     /// A whole number `n` of the field stands for `n / scale - offset` units, by the profile; [`value`](Field::value) is what
     /// [`Names`](crate::Names) say.
+    #[must_use]
     pub fn scale(&self) -> u32 {
         four(self.entry, AT_ENTRY_SCALE)
     }
 
     /// See [`scale`](Field::scale).
+    #[must_use]
     pub fn offset(&self) -> u32 {
         four(self.entry, AT_ENTRY_OFFSET)
     }
 
     /// How many decimals a scaled number has.
+    #[must_use]
     pub fn decimals(&self) -> u8 {
         self.entry[AT_ENTRY_DECIMALS]
     }
@@ -156,6 +166,7 @@ impl<'a> Field<'a> {
     ///
     /// It is none where the item says that there is no value, where there is no such item, and of texts and bytes. It is the nearest
     /// `f64` where the item, and its offset times its scale, have at most 53 bits.
+    #[must_use]
     pub fn value(&self, k: usize) -> Option<f64> {
         let number = match self.raw(k).filter(|_| self.is_valid(k))? {
             Raw::Unsigned(number) => number as f64,
@@ -198,6 +209,7 @@ impl<'a> Field<'a> {
     }
 
     /// Item `k`, counted from 0, as the file has it; none where there is no such item.
+    #[must_use]
     pub fn raw(&self, k: usize) -> Option<Raw> {
         let (bits, width) = (self.bits(k)?, self.entry[AT_ENTRY_WIDTH]);
         match self.entry[AT_ENTRY_KIND] {
@@ -213,6 +225,7 @@ impl<'a> Field<'a> {
     }
 
     /// Whether there is an item `k` and it stands for a value. Each byte of bytes does, and each of a text but a zero.
+    #[must_use]
     pub fn is_valid(&self, k: usize) -> bool {
         let invalid = eight(self.entry, AT_ENTRY_INVALID);
         self.bits(k).map_or(false, |bits| self.entry[AT_ENTRY_KIND] == BYTES || bits != invalid)
@@ -230,6 +243,7 @@ impl<'a> Field<'a> {
     }
 
     /// What the whole field stands for.
+    #[must_use]
     pub fn whole(&self) -> Value<'a> {
         match (self.entry[AT_ENTRY_KIND], self.count()) {
             (STRING, _) => match (self.text(), up_to_zero(self.items)) {
@@ -253,11 +267,13 @@ impl<'a> Field<'a> {
     }
 
     /// The text of a text field, up to its first zero; none where it is empty or isn't UTF-8.
+    #[must_use]
     pub fn text(&self) -> Option<&'a str> {
         (self.entry[AT_ENTRY_KIND] == STRING).then(|| text(self.items, 0)).flatten()
     }
 
     /// The bytes of all items, one after another: of numbers in little endian, whatever the file has.
+    #[must_use]
     pub fn bytes(&self) -> &'a [u8] {
         self.items
     }

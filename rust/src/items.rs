@@ -1,7 +1,7 @@
 //! Values as the items of a field.
 use crate::field::{Field, Raw, Value};
 use crate::numbers::{BYTES, FLOAT, SIGNED, STRING};
-use crate::unfit::{label, shown, Unfit};
+use crate::value_error::{label, shown, Unfit};
 
 /// The bits of one item of a field of numbers.
 pub(crate) fn number(field: &Field<'_>, value: Value<'_>) -> Result<u64, Unfit> {

@@ -36,17 +36,17 @@ mod field;
 mod items;
 #[allow(unsafe_code)]
 mod library;
+mod measure;
 mod message;
 mod names;
 mod numbers;
+mod profile;
 mod reason;
-mod steps;
 mod streams;
 #[cfg(test)]
 mod tests;
 mod time;
-mod unfit;
-mod usual;
+mod value_error;
 mod writer;
 
 pub use base_type::BaseType;
@@ -64,7 +64,7 @@ pub use names::{Named, Names, NamesFault};
 pub use reason::Reason;
 pub use streams::{Made, ReadFault, Reading, Stream};
 pub use time::Time;
-pub use unfit::Unfit;
+pub use value_error::Unfit;
 pub use writer::{WriteFault, Writer};
 
 use fault::found;
@@ -233,6 +233,7 @@ pub fn from_blocks(blocks: &[u8]) -> Result<Bytes, BlocksFault> {
 /// ```
 /// assert_eq!(gazhdor::version(), env!("CARGO_PKG_VERSION"));
 /// ```
+#[must_use]
 pub fn version() -> &'static str {
     library::version()
 }

@@ -13,7 +13,7 @@ use crate::numbers::{
     TOLD_SPEED, TOLD_TIME,
 };
 use crate::time::Time;
-use crate::unfit::Unfit;
+use crate::value_error::Unfit;
 use std::fmt::{self, Debug, Formatter};
 use std::iter::FusedIterator;
 
@@ -37,17 +37,20 @@ impl Messages {
     }
 
     /// Goes through the messages in their order.
+    #[must_use]
     pub fn iter(&self) -> Iter<'_> {
         Iter { walk: self.walk() }
     }
 
     /// Goes through all that the files have, in its order: headers, definitions, messages, ends.
+    #[must_use]
     pub fn events(&self) -> Events<'_> {
         Events::new(self.walk())
     }
 
     /// All that the files have as blocks of bytes (`docs/BLOCKS.md`), of which [`from_blocks`](crate::from_blocks) makes the files again.
     /// Of a piece they are those that it completes.
+    #[must_use]
     pub fn blocks(&self) -> &[u8] {
         &self.blocks
     }
@@ -133,77 +136,92 @@ impl<'a> Message<'a> {
     }
 
     /// The same message by these names, units and scales, which go before those of the profile. They say nothing of developer fields.
+    #[must_use]
     pub fn named(self, names: &'a Names) -> Message<'a> {
         Message { names: Some(names), ..self }
     }
 
     /// Its name in the profile, as `record`.
+    #[must_use]
     pub fn name(&self) -> Option<&'a str> {
         let named = self.names.and_then(|names| names.message(self.number()));
         named.or_else(|| text(self.definition, AT_DEFINITION_NAME))
     }
 
     /// Its global message number, as 20 for `record`.
+    #[must_use]
     pub fn number(&self) -> u16 {
         two(self.definition, AT_DEFINITION_MESSAGE)
     }
 
     /// Its local message type, 0 to 15.
+    #[must_use]
     pub fn local(&self) -> u8 {
         self.block[AT_MESSAGE_LOCAL]
     }
 
     /// The number of its file in the chain, counted from 1.
+    #[must_use]
     pub fn file(&self) -> u32 {
         four(self.block, AT_FILE)
     }
 
     /// The place of its first byte among those of the files, counted from 0.
+    #[must_use]
     pub fn place(&self) -> u64 {
         eight(self.block, AT_PLACE)
     }
 
     /// Its time: that of field 253 where it is valid, else that of a compressed timestamp header.
+    #[must_use]
     pub fn time(&self) -> Option<Time> {
         self.tells(TOLD_TIME).then(|| Time::new(four(self.block, AT_MESSAGE_TIME)))
     }
 
     /// The time that a compressed timestamp header gives.
+    #[must_use]
     pub fn header_time(&self) -> Option<Time> {
         self.tells(TOLD_HEADER_TIME).then(|| Time::new(four(self.block, AT_MESSAGE_HEADER_TIME)))
     }
 
     /// The time offset of a compressed timestamp header, 0 to 31; none where the header is a normal one.
+    #[must_use]
     pub fn time_offset(&self) -> Option<u8> {
         Some(self.block[AT_MESSAGE_OFFSET]).filter(|&offset| offset != NO_OFFSET)
     }
 
     /// Metres a second, of a record with `compressed_speed_distance`.
+    #[must_use]
     pub fn speed(&self) -> Option<f64> {
         self.amount(TOLD_SPEED, AT_MESSAGE_SPEED).map(|speed| speed as f64 / 100.0)
     }
 
     /// Metres, accumulated over the file from `compressed_speed_distance`; none in a message without it.
+    #[must_use]
     pub fn distance(&self) -> Option<f64> {
         self.amount(TOLD_DISTANCE, AT_MESSAGE_DISTANCE).map(|distance| distance as f64 / 16.0)
     }
 
     /// Cycles, accumulated over the file; none in a message without them.
+    #[must_use]
     pub fn total_cycles(&self) -> Option<u64> {
         self.amount(TOLD_CYCLES, AT_MESSAGE_CYCLES)
     }
 
     /// Watts, accumulated over the file; none in a message without it.
+    #[must_use]
     pub fn accumulated_power(&self) -> Option<u64> {
         self.amount(TOLD_POWER, AT_MESSAGE_POWER)
     }
 
     /// All fields, in the order of the definition, and then all developer fields.
+    #[must_use]
     pub fn fields(&self) -> Fields<'a> {
         Fields::new(self.definition, self.block, self.names.map(|names| (names, self.number())))
     }
 
     /// The first field of this name; developer fields have names too.
+    #[must_use]
     pub fn field(&self, name: &str) -> Option<Field<'a>> {
         let name = name.as_bytes();
         let is_named = |entry: &&[u8]| {
@@ -218,26 +236,31 @@ impl<'a> Message<'a> {
     }
 
     /// The first field with this number, developer fields left out.
+    #[must_use]
     pub fn numbered(&self, number: u8) -> Option<Field<'a>> {
         self.fields().find(|field| field.developer().is_none() && field.number() == number)
     }
 
     /// The first developer field with this developer data index and this number.
+    #[must_use]
     pub fn developer(&self, index: u8, number: u8) -> Option<Field<'a>> {
         self.fields().find(|field| field.developer() == Some(index) && field.number() == number)
     }
 
     /// The first number of the first field of this name: `field(name)?.value(0)`.
+    #[must_use]
     pub fn value(&self, name: &str) -> Option<f64> {
         self.field(name)?.value(0)
     }
 
     /// Its definition.
+    #[must_use]
     pub fn definition(&self) -> Definition<'a> {
         Definition::read(self.definition, self.names)
     }
 
     /// A copy that can be changed and written.
+    #[must_use]
     pub fn draft(&self) -> Draft<'a> {
         Draft::of(self.block.to_vec(), *self)
     }

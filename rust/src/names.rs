@@ -76,12 +76,14 @@ impl Error for NamesFault {}
 
 impl Names {
     /// No names.
+    #[must_use]
     pub fn new() -> Names {
         Names::default()
     }
 
     /// Fields and messages that recordings have and the proved profile hasn't, after Garmin's public FIT profile. They are no part of what
     /// is proved; the first lines of `src/extra.tsv` say of which edition they are.
+    #[must_use]
     pub fn extra() -> Names {
         Names::read(EXTRA).unwrap_or_default()
     }
@@ -151,6 +153,7 @@ impl Names {
     }
 
     /// The base type that a field mostly has. A file says itself which one its own has.
+    #[must_use]
     pub fn base_type(&self, message: u16, field: u8) -> Option<BaseType> {
         self.base_types.get(&(message, field)).copied()
     }
@@ -161,17 +164,20 @@ impl Names {
     }
 
     /// The number of the message of a name, as 20 of `record`.
+    #[must_use]
     pub fn message_named(&self, name: &str) -> Option<u16> {
         self.messages.iter().find(|(_, of)| *of == name).map(|(&number, _)| number)
     }
 
     /// The number of the field of a message that has a name, as 3 of `heart_rate`.
+    #[must_use]
     pub fn field_named(&self, message: u16, name: &str) -> Option<u8> {
         let mut fields = self.fields.range((message, 0)..=(message, u8::MAX));
         fields.find(|(_, named)| named.name.as_deref() == Some(name)).map(|(&(_, number), _)| number)
     }
 
     /// What is said of a field of a message.
+    #[must_use]
     pub fn field(&self, message: u16, field: u8) -> Option<&Named> {
         self.fields.get(&(message, field))
     }

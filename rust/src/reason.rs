@@ -44,6 +44,7 @@ pub(crate) const REASONS: [Reason; 11] = [
 
 impl Reason {
     /// What it says of the byte, as `the byte is neither 0 nor 1`.
+    #[must_use]
     pub fn explanation(self) -> &'static str {
         match self {
             Reason::HeaderSize => "the byte begins a header of 0 to 11 or 13 bytes",

@@ -194,6 +194,7 @@ impl<T: Made> Stream<T> {
     }
 
     /// How many files had ended at the last call that was good.
+    #[must_use]
     pub fn files(&self) -> u64 {
         self.files
     }

@@ -24,6 +24,7 @@ pub struct Time(u32);
 
 impl Time {
     /// The time that a number of a field such as `start_time` stands for.
+    #[must_use]
     pub fn new(seconds: u32) -> Time {
         Time(seconds)
     }
@@ -33,22 +34,26 @@ impl Time {
     /// ```
     /// assert_eq!(gazhdor::Time::from_unix(1_631_065_634), Some(gazhdor::Time::new(1_000_000_034)));
     /// ```
+    #[must_use]
     pub fn from_unix(seconds: u64) -> Option<Time> {
         let seconds = u32::try_from(seconds.checked_sub(EPOCH)?).ok()?;
         Some(Time(seconds)).filter(|time| !time.is_system() && seconds != NO_TIME)
     }
 
     /// Seconds since 1989-12-31T00:00:00 UTC; of a system time, since the device was switched on.
+    #[must_use]
     pub fn seconds(self) -> u32 {
         self.0
     }
 
     /// Whether it counts from when the device was switched on, and so has no date: below 268,435,456 seconds.
+    #[must_use]
     pub fn is_system(self) -> bool {
         self.0 < FIRST_DATE
     }
 
     /// Seconds since 1970-01-01T00:00:00 UTC, without leap seconds; none of a system time.
+    #[must_use]
     pub fn unix(self) -> Option<u64> {
         (!self.is_system()).then(|| u64::from(self.0) + EPOCH)
     }

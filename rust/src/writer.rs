@@ -12,7 +12,7 @@ use crate::numbers::{
     AT_DEFINITION_ARCHITECTURE, AT_DEFINITION_LOCAL, AT_DEFINITION_MESSAGE, AT_DEFINITION_RESERVED, AT_HEADER_SUM,
     AT_KIND, AT_LENGTH, FILE_END, LEAST_BLOCK,
 };
-use crate::unfit::Unfit;
+use crate::value_error::Unfit;
 use std::error::Error;
 use std::fmt::{self, Debug, Display, Formatter};
 use std::io::{self, Write};
