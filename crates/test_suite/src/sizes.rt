@@ -34,14 +34,15 @@ fn no_list_in_a_position(rt: HostRuntime) {
     assert!(rt; mem::size_of::<Position>() <= 32);
 }
 
-/// Beside what is known and the record in progress a decoder has no room for the address of a list. It has a reader of headers (255 bytes,
-/// eight that count them, and a refusal), the two bytes of a sum, a position of at most 32, how many files have ended and which section
-/// comes, and how many bytes were fed. Each lies in a multiple of eight bytes.
+/// The bytes of a decoder beside what is known and the record in progress: 272 for a header, 2 for the sum, 32 for a position, 16 for two
+/// counts, and 6 for where in a file it stands. They are a number here, so that no part of it grows unseen.
+const BESIDE: usize = 328;
+
+/// Beside what is known and the record in progress, a decoder has no room for the address of a list.
 #[test]
 fn no_list_in_a_decoder(rt: HostRuntime) {
     let held = mem::size_of::<Env>() + mem::size_of::<Option<Record>>();
-    let kept = 272 + 8 + 32 + 8 + 8;
-    assert!(rt; mem::size_of::<Decoder>() < held + kept + ADDRESS);
+    assert!(rt; mem::size_of::<Decoder>() <= held + BESIDE);
 }
 
 /// What is known are definitions, lengths of messages and codes of developer fields, and no room is left.
