@@ -1,14 +1,18 @@
 """Makes the wheel of gazhdor, as pip asks for it (PEP 517), with nothing but Python's own library.
 
-The wheel has what the folder gazhdor/ has, and beside it the version and the library of the tree above this folder, for this machine's
-processor, or for the one that the setting `processor` names. Its tag names the oldest C library that will do. The same files make the
-same bytes, on every machine."""
+The wheel has what the folder gazhdor/ has, and beside it the version and the library of the tree above this folder. Where this is Linux on
+x86-64 or aarch64 with glibc, that is the released library, and the tag names the oldest C library that will do; the same files make the same
+bytes. Elsewhere, and where the variable GAZHDOR_COMPILE is set, `compiled.py` makes it by the C compiler that is here. Settings: `processor`
+names another processor whose released library is taken; `library` names a library that is there, and `platform` its tag."""
 import base64
 import hashlib
 import os
 import platform
 import re
+import sys
 import zipfile
+
+from compiled import compiled, tag_of_this
 
 HERE = os.path.dirname(os.path.abspath(__file__))
 TREE = os.path.dirname(HERE)
@@ -19,6 +23,8 @@ Summary: Checks and converts FIT files, by a proved library
 License: MIT
 Requires-Python: >=3.9
 Classifier: License :: OSI Approved :: MIT License
+Classifier: Operating System :: MacOS
+Classifier: Operating System :: Microsoft :: Windows
 Classifier: Operating System :: POSIX :: Linux
 Classifier: Programming Language :: Python :: 3
 Classifier: Typing :: Typed
@@ -39,15 +45,24 @@ def _read(*parts):
         raise FileNotFoundError(f"{path} isn't there: the wheel is made where the whole tree is, by pip 21.3 or later") from None
 
 
-def _processor(settings):
-    """The processor that the wheel is for, as `uname -m` names it."""
+def _released_here():
+    """Whether this is a machine for which a library is released."""
     system, machine = platform.system(), platform.machine()
-    named = (settings or {}).get("processor")
-    if named:
-        system, machine = "Linux", named
-    if system != "Linux" or machine not in ("x86_64", "aarch64"):
-        raise RuntimeError(f"gazhdor: there are libraries for x86_64 Linux and for aarch64 Linux, and none for {machine} {system}")
-    return machine
+    return (system, platform.libc_ver()[0]) == ("Linux", "glibc") and machine in ("x86_64", "aarch64") and sys.maxsize > 2**32
+
+
+def _made(settings):
+    """The library's name in the wheel, its bytes, and the wheel's tag."""
+    if settings.get("library"):
+        path = settings["library"]
+        return os.path.basename(path), _read(path), settings["platform"]
+    if not settings.get("processor") and (os.environ.get("GAZHDOR_COMPILE") or not _released_here()):
+        return (*compiled(TREE), tag_of_this())
+    processor = settings.get("processor") or platform.machine()
+    if processor not in ("x86_64", "aarch64"):
+        raise RuntimeError(f"gazhdor: there are libraries for x86_64 Linux and for aarch64 Linux, and none for {processor} Linux")
+    library = _library(processor)
+    return "libgazhdor.so", library, _tag(library, processor)
 
 
 def _library(processor):
@@ -62,7 +77,7 @@ def _library(processor):
 def _tag(library, processor):
     """The library names each version of the C library that it needs; none is older than 2.17 where pip runs today."""
     minor = max([17] + [int(number) for number in re.findall(rb"\0GLIBC_2\.(\d+)", library)])
-    return f"py3-none-manylinux_2_{minor}_{processor}"
+    return f"manylinux_2_{minor}_{processor}"
 
 
 def _modules():
@@ -84,12 +99,12 @@ def _record(files):
 
 
 def build_wheel(wheel_directory, config_settings=None, metadata_directory=None):
-    processor = _processor(config_settings)
     module = dict(_modules())
     module["VERSION"] = _read(TREE, "VERSION")
-    module["libgazhdor.so"] = _library(processor)
     version = module["VERSION"].decode().strip()
-    tag = _tag(module["libgazhdor.so"], processor)
+    library, data, system = _made(config_settings or {})
+    module[library] = data
+    tag = f"py3-none-{system}"
     about = f"gazhdor-{version}.dist-info"
     files = [(f"gazhdor/{name}", module[name]) for name in sorted(module)]
     files += [

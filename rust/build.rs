@@ -1,8 +1,11 @@
 //! Links libgazhdor.a: that of the folder which GAZHDOR_LIB_DIR names, else that of lib/, which a packed crate has, else that of
-//! release/ in the tree above. The last two have one for each processor, and their SHA-256.
+//! release/ in the tree above. The last two have one for each processor of Linux, and their SHA-256. For other targets, and where
+//! GAZHDOR_COMPILE is set, the library is compiled here.
 use std::path::{Path, PathBuf};
 use std::{env, fs};
 
+#[path = "compiled.rs"]
+pub mod compiled;
 #[path = "sha256.rs"]
 pub mod sha256;
 
@@ -14,13 +17,20 @@ fn variable(name: &str) -> String {
 
 fn main() {
     println!("cargo:rerun-if-env-changed=GAZHDOR_LIB_DIR");
-    let machine = machine_of(&variable("CARGO_CFG_TARGET_OS"), &variable("CARGO_CFG_TARGET_ARCH"));
+    println!("cargo:rerun-if-env-changed=GAZHDOR_COMPILE");
     let here = PathBuf::from(variable("CARGO_MANIFEST_DIR"));
-    let folder = match env::var_os("GAZHDOR_LIB_DIR") {
-        Some(named) => PathBuf::from(named),
-        None => whole(&folder_of("SHA256SUMS", &here.join("lib"), &here.join("../release")), &machine),
+    let released = match variable("GAZHDOR_COMPILE").is_empty() {
+        true => machine_of(&variable("CARGO_CFG_TARGET_OS"), &variable("CARGO_CFG_TARGET_ARCH")),
+        false => None,
     };
-    let archive = folder.join(LIBRARY);
+    let archive = match (env::var_os("GAZHDOR_LIB_DIR"), released) {
+        (Some(named), _) => PathBuf::from(named).join(LIBRARY),
+        (None, Some(machine)) => {
+            whole(&folder_of("SHA256SUMS", &here.join("lib"), &here.join("../release")), &machine).join(LIBRARY)
+        }
+        (None, None) => compiled::archive(&here, Path::new(&variable("OUT_DIR"))),
+    };
+    let folder = archive.parent().unwrap_or(Path::new("."));
     see_library(&archive, &variable("CARGO_PKG_VERSION"));
     println!("cargo:rerun-if-changed={}", archive.display());
     println!("cargo:rustc-link-search=native={}", folder.display());
@@ -38,30 +48,28 @@ pub fn folder_of(file: &str, packed: &Path, tree: &Path) -> PathBuf {
     }
 }
 
-/// The name of the folder that has a target's library. Stops where there is none for it.
-pub fn machine_of(os: &str, processor: &str) -> String {
-    if os != "linux" || !["x86_64", "aarch64"].contains(&processor) {
-        panic!(
-            "the libraries of gazhdor are for x86_64 Linux and for aarch64 Linux, and the target is {processor} {os}"
-        );
-    }
-    format!("{processor}-linux")
+/// The name of the folder that has a target's library; none where there is no such folder.
+pub fn machine_of(os: &str, processor: &str) -> Option<String> {
+    let released = os == "linux" && ["x86_64", "aarch64"].contains(&processor);
+    released.then(|| format!("{processor}-linux"))
 }
 
 /// The folder of a machine's library, which stops where that isn't what SHA256SUMS beside the folder says of it.
 pub fn whole(folders: &Path, machine: &str) -> PathBuf {
     let folder = folders.join(machine);
-    let archive = folder.join(LIBRARY);
-    let sums = folders.join("SHA256SUMS");
-    println!("cargo:rerun-if-changed={}", sums.display());
-    let told = read(&sums);
-    let sum = sha256::hexadecimal(&read(&archive));
-    let place = format!("/{machine}/{LIBRARY}");
-    let line_of = |line: &str| line.starts_with(&format!("{sum}  ")) && line.ends_with(&place);
-    if !String::from_utf8_lossy(&told).lines().any(line_of) {
-        panic!("{} is damaged: it is not what {} says", archive.display(), sums.display());
-    }
+    see_whole(&folders.join("SHA256SUMS"), &folder.join(LIBRARY), &format!("/{machine}/{LIBRARY}"));
     folder
+}
+
+/// Stops where a file isn't what a list of sums says of the place whose name ends so.
+pub fn see_whole(sums: &Path, file: &Path, place: &str) {
+    println!("cargo:rerun-if-changed={}", sums.display());
+    let told = read(sums);
+    let sum = sha256::hexadecimal(&read(file));
+    let line_of = |line: &str| line.starts_with(&format!("{sum}  ")) && line.ends_with(place);
+    if !String::from_utf8_lossy(&told).lines().any(line_of) {
+        panic!("{} is damaged: it is not what {} says", file.display(), sums.display());
+    }
 }
 
 /// Stops where there is no library, or one of another version: the text of its version ends in a zero, as every text in C.

@@ -1,4 +1,4 @@
-"""Finds libgazhdor.so, loads it and calls it."""
+"""Finds the library, loads it and calls it."""
 import ctypes
 import os
 import pkgutil
@@ -10,7 +10,7 @@ from typing import Any, Optional, Union
 from ._answers import Answer
 from .errors import LibraryMissing, LibraryUnusable, WrongMachine, WrongVersion
 
-NAME = "libgazhdor.so"
+NAME = {"win32": "gazhdor.dll", "darwin": "libgazhdor.dylib"}.get(sys.platform, "libgazhdor.so")
 HERE = os.path.dirname(os.path.abspath(__file__))
 # The module stands in the folder python/ of a tree, unless it was installed; the tree has the library and the version
 # for it.
@@ -41,14 +41,17 @@ def _see_machine() -> None:
     system, machine = platform.system(), platform.machine()
     if system != "Linux" or machine not in ("x86_64", "aarch64") or sys.maxsize < 2**32:
         bits = 8 * ctypes.sizeof(ctypes.c_void_p)
-        what = "the libraries of gazhdor are for 64-bit Python on x86_64 Linux and on aarch64 Linux"
-        raise WrongMachine(f"{what}, and this is {bits}-bit Python on {machine} {system}")
+        what = "the released libraries of gazhdor are for 64-bit Python on x86_64 Linux and on aarch64 Linux"
+        help = "pip install, of the folder python/ of the project's files, compiles one where there is a C compiler"
+        raise WrongMachine(f"{what}, and this is {bits}-bit Python on {machine} {system}: {help}")
 
 
-def _opened(path: str) -> ctypes.CDLL:
+def _opened(path: str, beside: bool = False) -> ctypes.CDLL:
     try:
         return ctypes.CDLL(path)
     except OSError as error:
+        if beside:
+            _see_machine()
         raise LibraryUnusable(f"{path} can't be loaded: {error}", path) from None
 
 
@@ -58,20 +61,19 @@ def _find() -> tuple[str, ctypes.CDLL]:
         if not os.path.exists(named):
             raise LibraryMissing(f"{named} isn't there, which GAZHDOR_LIBRARY names", named)
         return named, _opened(os.path.abspath(named))
-    _see_machine()
     beside = os.path.join(HERE, NAME)
     if os.path.exists(beside):
-        return beside, _opened(beside)
+        return beside, _opened(beside, beside=True)
     inside = packed(NAME)
     if inside is not None:
         # The module is in a zip file, of which the system loads nothing. A library that is loaded needs its file no
         # more.
         import tempfile
 
-        with tempfile.NamedTemporaryFile(prefix="gazhdor-", suffix=".so") as file:
+        with tempfile.NamedTemporaryFile(prefix="gazhdor-", suffix=NAME) as file:
             file.write(inside)
             file.flush()
-            return beside, _opened(file.name)
+            return beside, _opened(file.name, beside=True)
     released = os.path.join(TREE, "release", f"{platform.machine()}-linux", NAME)
     if IN_TREE and os.path.exists(released):
         return released, _opened(released)
@@ -80,6 +82,7 @@ def _find() -> tuple[str, ctypes.CDLL]:
     try:
         return NAME, ctypes.CDLL(installed)
     except OSError:
+        _see_machine()
         what = f"{beside} isn't there, and the system has no {installed}: install the wheel, or set GAZHDOR_LIBRARY"
         raise LibraryMissing(what, beside) from None
 

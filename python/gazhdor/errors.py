@@ -114,7 +114,7 @@ class LibraryError(ImportError):
 
 
 class LibraryMissing(LibraryError):
-    """There is no libgazhdor.so where it should be."""
+    """There is no library where it should be."""
 
 
 class LibraryUnusable(LibraryError):
@@ -127,7 +127,7 @@ class WrongVersion(LibraryError):
 
 
 class WrongMachine(LibraryError):
-    """The library is for another processor or system."""
+    """The library is for another processor or system, and there is none for this one."""
 
 
 def judge(answer: Answer) -> None:

@@ -247,10 +247,20 @@ except ImportError as error:
         """A module that was unpacked on another machine than pip would allow."""
         for name, value, machine in (("machine", "riscv64", "riscv64 Linux"), ("system", "Darwin", f"{platform.machine()} Darwin")):
             before = f"import platform\nplatform.{name} = lambda: {value!r}\n"
-            self.refused("WrongMachine", None, f"this is 64-bit Python on {machine}", before)
+            self.beside_refused(b"no library", "WrongMachine", f"this is 64-bit Python on {machine}: pip install, of the folder", before)
         # The library itself for another processor, number 243.
         other = self.written("riscv.so", self.bytes[:18] + (243).to_bytes(2, "little") + self.bytes[20:])
         self.refused("LibraryUnusable", other, f"{other} can't be loaded: ", GAZHDOR_LIBRARY=other)
+
+    def beside_refused(self, library, kind, what, before):
+        """What is said where such a library stands beside the module."""
+        with open(self.library, "wb") as file:
+            file.write(library)
+        try:
+            self.refused(kind, None, what, before)
+        finally:
+            with open(self.library, "wb") as file:
+                file.write(self.bytes)
 
     def test_shell(self):
         done = run("-m", "gazhdor", "check", RIDE, env=variables(PYTHONPATH=PYTHON, GAZHDOR_LIBRARY="none.so"))
