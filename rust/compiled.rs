@@ -1,6 +1,6 @@
 //! Compiles the library for a target that has no released one: of C that release/any/module_c.py writes of js/gazhdor.wasm, which a
 //! packed crate has in lib/any.
-use crate::{folder_of, see_whole, variable};
+use super::{folder_of, see_whole, variable};
 use std::fs;
 use std::path::{Path, PathBuf};
 use std::process::{Command, Stdio};
