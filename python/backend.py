@@ -1,9 +1,10 @@
 """Makes the wheel of gazhdor, as pip asks for it (PEP 517), with nothing but Python's own library.
 
-The wheel has what the folder gazhdor/ has, and beside it the version and the library of the tree above this folder. Where this is Linux on
-x86-64 or aarch64 with glibc, that is the released library, and the tag names the oldest C library that will do; the same files make the same
-bytes. Elsewhere, and where the variable GAZHDOR_COMPILE is set, `compiled.py` makes it by the C compiler that is here. Settings: `processor`
-names another processor whose released library is taken; `library` names a library that is there, and `platform` its tag."""
+The wheel has what the folder gazhdor/ has, and beside it the version and the library of the tree above this folder.
+Where this is Linux on x86-64 or aarch64 with glibc, that is the released library, and the tag names the oldest C
+library that will do; the same files make the same bytes. Elsewhere, and where the variable GAZHDOR_COMPILE is set,
+`compiled.py` makes it by the C compiler that is here. Settings: `processor` names another processor whose released
+library is taken; `library` names a library that is there, and `platform` its tag."""
 import base64
 import hashlib
 import os
@@ -35,20 +36,14 @@ Root-Is-Purelib: false
 Tag: {tag}
 """
 
+def _read(*parts): path = os.path.join(*parts) try: with open(path, "rb") as file: return file.read() except
+FileNotFoundError: raise FileNotFoundError(f"{path} isn't there: the wheel is made where the whole tree is, by pip 21.3
+or later") from None
 
-def _read(*parts):
-    path = os.path.join(*parts)
-    try:
-        with open(path, "rb") as file:
-            return file.read()
-    except FileNotFoundError:
-        raise FileNotFoundError(f"{path} isn't there: the wheel is made where the whole tree is, by pip 21.3 or later") from None
-
-
-def _released_here():
-    """Whether this is a machine for which a library is released."""
+def _released_here(): """Whether this is a machine for which a library is released."""
     system, machine = platform.system(), platform.machine()
-    return (system, platform.libc_ver()[0]) == ("Linux", "glibc") and machine in ("x86_64", "aarch64") and sys.maxsize > 2**32
+    glibc = (system, platform.libc_ver()[0]) == ("Linux", "glibc")
+    return glibc and machine in ("x86_64", "aarch64") and sys.maxsize > 2**32
 
 
 def _made(settings):
@@ -60,7 +55,8 @@ def _made(settings):
         return (*compiled(TREE), tag_of_this())
     processor = settings.get("processor") or platform.machine()
     if processor not in ("x86_64", "aarch64"):
-        raise RuntimeError(f"gazhdor: there are libraries for x86_64 Linux and for aarch64 Linux, and none for {processor} Linux")
+        what = f"there are libraries for x86_64 Linux and for aarch64 Linux, and none for {processor} Linux"
+        raise RuntimeError(f"gazhdor: {what}")
     library = _library(processor)
     return "libgazhdor.so", library, _tag(library, processor)
 

@@ -1,5 +1,5 @@
-"""Makes the library of gazhdor by the C compiler that is here, for machines that have no released one: of C that is written of
-js/gazhdor.wasm (release/any), or with musl, where the released code runs too, by linking that anew."""
+"""Makes the library of gazhdor by the C compiler that is here, for machines that have no released one: of C that is
+written of js/gazhdor.wasm (release/any), or with musl, where the released code runs too, by linking that anew."""
 import hashlib
 import os
 import platform
@@ -18,7 +18,8 @@ ADVICE = {
 
 
 def tag_of_this():
-    """The platform of this Python, as wheels name it. Of a Mac it is that of the processor, also where Python has the code of two."""
+    """The platform of this Python, as wheels name it. Of a Mac it is that of the processor, also where Python has the
+    code of two."""
     system, machine = platform.system(), platform.machine()
     if system == "Darwin":
         return f"macosx_{_oldest_mac().replace('.', '_')}_{machine}"
@@ -34,7 +35,9 @@ def _oldest_mac():
 
 
 def _has_musl():
-    return platform.system() == "Linux" and platform.libc_ver()[0] != "glibc" and sys.maxsize > 2**32 and platform.machine() in ("x86_64", "aarch64")
+    """Whether the released code runs here, but not with the released library's C library."""
+    musl = platform.system() == "Linux" and platform.libc_ver()[0] != "glibc"
+    return musl and sys.maxsize > 2**32 and platform.machine() in ("x86_64", "aarch64")
 
 
 def _whole(tree, place):
@@ -52,7 +55,8 @@ def _words(tree, folder):
     if _has_musl():
         archive = _whole(tree, f"release/{platform.machine()}-linux/libgazhdor.a")
         return ["-shared", "-nostartfiles", "-Wl,--whole-archive", archive, "-Wl,--no-whole-archive"]
-    writer, source = os.path.join(tree, "release", "any", "module_c.py"), os.path.join(tree, "release", "any", "everywhere.c")
+    sources = os.path.join(tree, "release", "any")
+    writer, source = os.path.join(sources, "module_c.py"), os.path.join(sources, "everywhere.c")
     with open(os.path.join(folder, "gazhdor_module.c"), "wb") as file:
         subprocess.run([sys.executable, "-B", writer, _whole(tree, "js/gazhdor.wasm")], stdout=file, check=True)
     words = ["-O2", "-w", "-shared", f"-I{os.path.join(tree, 'c')}", f"-I{folder}", source]
@@ -62,14 +66,16 @@ def _words(tree, folder):
 
 
 def compiled(tree):
-    """The name and the bytes of the library. The compiler is what CC names, else that of this Python, else cc, gcc or clang."""
+    """The name and the bytes of the library. The compiler is what CC names, else that of this Python, else cc, gcc or
+    clang."""
     system = platform.system()
     name, tried = NAMES.get(system, "libgazhdor.so"), []
     with tempfile.TemporaryDirectory() as folder:
         made, words = os.path.join(folder, name), _words(tree, folder)
         for compiler in filter(None, (os.environ.get("CC"), sysconfig.get_config_var("CC"), "cc", "gcc", "clang")):
             try:
-                done = subprocess.run([*shlex.split(compiler), *words, "-o", made], stdout=subprocess.PIPE, stderr=subprocess.STDOUT)
+                command = [*shlex.split(compiler), *words, "-o", made]
+                done = subprocess.run(command, stdout=subprocess.PIPE, stderr=subprocess.STDOUT)
             except OSError as error:
                 tried.append(f"{compiler}: {error}")
                 continue
@@ -78,5 +84,5 @@ def compiled(tree):
                     return name, file.read()
             tried.append(f"{compiler}: {done.stdout.decode(errors='replace')[:500]}")
     need = ADVICE.get(system, "a C compiler")
-    what = f"there is no library for {platform.machine()} {system}, and no C compiler made one: install {need}, or name one by CC"
-    raise RuntimeError(f"gazhdor: {what}. Tried: {'; '.join(tried)}")
+    what = f"there is no library for {platform.machine()} {system}, and no C compiler made one"
+    raise RuntimeError(f"gazhdor: {what}: install {need}, or name one by CC. Tried: {'; '.join(tried)}")

@@ -1,7 +1,8 @@
 """Writes a function of a WebAssembly module as C.
 
-Expressions are joined again from the stack machine; what reads memory, a global or a local is put into a variable before that is changed,
-so the order of reads and writes is that of the module. Numbers of floating point are moved as their bits, and nothing calculates with them."""
+Expressions are joined again from the stack machine; what reads memory, a global or a local is put into a variable
+before that is changed, so the order of reads and writes is that of the module. Numbers of floating point are moved as
+their bits, and nothing calculates with them."""
 import re
 
 from instructions import CALCULATED, CALCULATED_FROM, COMPARED, COMPARED_FROM, COUNTS, EXTENDED, KINDS, LOADS, NO_KIND, STORES
@@ -13,8 +14,8 @@ STACK = 0  # the global that points to the end of the stack in memory
 
 
 class Function:
-    """The C of one function. `frame` is how much it takes itself of the stack in memory, and `calls` are the functions that it calls, each with how
-    much it has taken then."""
+    """The C of one function. `frame` is how much it takes itself of the stack in memory, and `calls` are the functions
+    that it calls, each with how much it has taken then."""
 
     def __init__(self, module, number):
         self.module, self.number = module, number

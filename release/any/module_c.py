@@ -1,16 +1,18 @@
 #!/usr/bin/env python3
 """Writes the WebAssembly module as C: module_c.py MODULE.wasm, to standard output
 
-The C is for any compiler and any processor; everywhere.c includes it after module.h, which says what memory is. An instruction that the
-module hasn't got isn't known here, and the writer stops at it. It also stops where a call might take more of the stack in memory than there
-is, so nothing has to look for that while the code runs. The same module gives the same bytes."""
+The C is for any compiler and any processor; everywhere.c includes it after module.h, which says what memory is. An
+instruction that the module hasn't got isn't known here, and the writer stops at it. It also stops where a call might
+take more of the stack in memory than there is, so nothing has to look for that while the code runs. The same module
+gives the same bytes."""
 import sys
 
 from functions import STACK, Function
 from wasm import Module
 
 BYTES_A_LINE = 60
-# A function that calls itself goes down a balanced tree: in 4 GiB none is higher, even if no node had more than two below it.
+# A function that calls itself goes down a balanced tree: in 4 GiB none is higher, even if no node had more than two
+# below it.
 LEVELS = 32
 
 
@@ -26,7 +28,8 @@ def deepest(functions, number, calling, known):
 
 
 def see_stack(module, functions):
-    """Says in a comment how much of the stack the calls take; stops where that is more than there is. The stack is below the data."""
+    """Says in a comment how much of the stack the calls take; stops where that is more than there is. The stack is
+    below the data."""
     known, room = {}, module.globals[STACK][1]
     if len(module.globals) != 1 or min(place for place, _ in module.data) < room:
         raise SystemExit("module_c.py: the stack isn't where it should be")
@@ -37,8 +40,8 @@ def see_stack(module, functions):
 
 
 def image(module):
-    """The data as they are in memory at first, from the end of the stack on, and the call that puts them there. Where the module has none, and
-    after them, there are zeros."""
+    """The data as they are in memory at first, from the end of the stack on, and the call that puts them there. Where
+    the module has none, and after them, there are zeros."""
     first = module.globals[STACK][1]
     data = bytearray(max(place + len(bytes_) for place, bytes_ in module.data) - first)
     for place, bytes_ in module.data:

@@ -2,9 +2,10 @@
 
 
 class Value:
-    """An expression: its text, its type (u32 or u64), the locals that it reads, whether it reads memory or a global (`memory`), whether it is
-    a truth of C, which is an int, and its number where it is a constant. `wide` is the text before its upper 32 bits were cut off. `depth` says
-    of an address on the stack in memory how far it is below where the stack was when the function began."""
+    """An expression: its text, its type (u32 or u64), the locals that it reads, whether it reads memory or a global
+    (`memory`), whether it is a truth of C, which is an int, and its number where it is a constant. `wide` is the text
+    before its upper 32 bits were cut off. `depth` says of an address on the stack in memory how far it is below where
+    the stack was when the function began."""
 
     def __init__(self, text, kind, reads=frozenset(), memory=False, truth=False, constant=None, wide=None, depth=None):
         self.text, self.kind, self.reads, self.memory = text, kind, reads, memory
@@ -37,15 +38,17 @@ class Value:
         return self.constant is not None or self.text[0] == "t"
 
     def place(self, offset):
-        """The text of a place in memory, of 64 bits. Where a place was cut off to 32 bits just to be used, it is taken as it was before: the code
-        comes of 64-bit code, all of whose places are in memory, so there is nothing to cut off."""
+        """The text of a place in memory, of 64 bits. Where a place was cut off to 32 bits just to be used, it is taken
+        as it was before: the code comes of 64-bit code, all of whose places are in memory, so there is nothing to cut
+        off."""
         text = self.wide or self.number
         return f"{text}+(u64){offset}" if offset else text
 
 
 class Block:
-    """A block that is open: the variables of its results, how many values are on the stack below it, whether it was reached, the label to which
-    a branch to it goes, where there is one, and how deep the stack in memory is where it begins, and at most where it has ended."""
+    """A block that is open: the variables of its results, how many values are on the stack below it, whether it was
+    reached, the label to which a branch to it goes, where there is one, and how deep the stack in memory is where it
+    begins, and at most where it has ended."""
 
     def __init__(self, kind, names, height, dead, depth):
         self.kind, self.names, self.height, self.dead, self.label = kind, names, height, dead, None

@@ -45,8 +45,9 @@ class Reader:
 
 
 class Module:
-    """What the sections say: `types` are parameters and results by their codes, `functions` the type of each function, `globals` type and first
-    value, `exports` name and function, `data` place and bytes, `codes` the bytes of each function; `pages` are those of memory at first."""
+    """What the sections say: `types` are parameters and results by their codes, `functions` the type of each function,
+    `globals` type and first value, `exports` name and function, `data` place and bytes, `codes` the bytes of each
+    function; `pages` are those of memory at first."""
 
     def __init__(self, data):
         if data[:8] != b"\0asm\1\0\0\0":
