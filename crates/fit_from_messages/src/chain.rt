@@ -3,6 +3,7 @@ ghost use Rattle.std.specs.Prelude.{◌≡◌, ◌↔◌, ◌<◌, ◌∷◌, �
 ghost use Rattle.fit_encode.specs.Encoding.{file_of};
 ghost use Rattle.fit_frame.specs.Header.{FormFits};
 ghost use Rattle.fit_from_messages.specs.SaysChain.{IsBlock, after, nothing_said, reason};
+ghost use Rattle.fit_from_messages.specs.declared.misfit.Misfit.TheVariants.{NoMemory};
 ghost use Rattle.fit_from_messages.specs.inner.Chains.{IsGoodChain, said_yet};
 ghost use Rattle.fit_from_messages.specs.inner.Misfits.{IsMisfitBlock};
 ghost use Rattle.fit_from_messages.specs.inner.OpenFiles.{IsGoodFile, begun_of};
@@ -128,6 +129,7 @@ impl Chain {
         ensures after { OnOk result (said_yet self.new ≡ after (said_yet self.old) block.now) }
         ensures sound { OnOk result (IsGoodChain self.new) }
         ensures err { IfErr result (IsMisfitBlock (reason (said_yet self.old) block.now)) }
+        ensures memory { IfErr result (λ misfit. misfit ≡ NoMemory → ⊥) }
     {
         if block[4] != 1 || !self.files.has_room() {
             return Err(Misfit::Block(BlockReason::Kind));
@@ -182,6 +184,8 @@ impl Chain {
         ensures after { OnOk result (said_yet self.new ≡ after (said_yet self.old) block.now) }
         ensures sound { OnOk result (IsGoodChain self.new) }
         ensures err { IfErr result (IsMisfitBlock (reason (said_yet self.old) block.now)) }
+        ensures memory { IfErr result (λ misfit. misfit ≡ NoMemory
+            → self.old.current ≡ None → ⊥) }
     {
         if self.current.is_none() {
             self.begin_file(alloc, block)
