@@ -12,7 +12,7 @@ use crate::BlockReason;
 use crate::file::{OpenFile, SlotLists};
 use crate::header::{header_in, header_stands};
 use crate::misfit::Misfit;
-use fit_base::Entries;
+use crate::slot::Slots;
 use fit_encode::{SpelledFiles, SpelledRecords};
 use fit_frame::Header;
 use fit_record::Env;
@@ -42,22 +42,22 @@ fn no_slots(alloc: Global) -> SlotLists
     ensures { result ≡ replicate 16 [] }
 {
     [
-        Entries::new(alloc),
-        Entries::new(alloc),
-        Entries::new(alloc),
-        Entries::new(alloc),
-        Entries::new(alloc),
-        Entries::new(alloc),
-        Entries::new(alloc),
-        Entries::new(alloc),
-        Entries::new(alloc),
-        Entries::new(alloc),
-        Entries::new(alloc),
-        Entries::new(alloc),
-        Entries::new(alloc),
-        Entries::new(alloc),
-        Entries::new(alloc),
-        Entries::new(alloc),
+        Slots::none(alloc),
+        Slots::none(alloc),
+        Slots::none(alloc),
+        Slots::none(alloc),
+        Slots::none(alloc),
+        Slots::none(alloc),
+        Slots::none(alloc),
+        Slots::none(alloc),
+        Slots::none(alloc),
+        Slots::none(alloc),
+        Slots::none(alloc),
+        Slots::none(alloc),
+        Slots::none(alloc),
+        Slots::none(alloc),
+        Slots::none(alloc),
+        Slots::none(alloc),
     ]
 }
 

@@ -15,8 +15,8 @@ ghost use Rattle.fit_from_messages.specs.inner.Slots.{IsSlot, Knows, SlotsFit, s
 
 use crate::BlockReason;
 use crate::misfit::Misfit;
-use crate::place::place_slots;
-use crate::slot::Slot;
+use crate::place::place_all;
+use crate::slot::Slots;
 use fit_base::Order;
 use fit_encode::place_bytes;
 use fit_record::{Description, Env};
@@ -98,7 +98,7 @@ fn write_message(
     front: MessageFront,
     order: Order,
     block: &[u8],
-    slots: &[Slot],
+    slots: &Slots,
 ) -> Option<usize>
     requires fits { DataHeaderFits front.local front.offset }
     requires slots { All IsSlot slots.now }
@@ -112,14 +112,14 @@ fn write_message(
     ensures none { IsNone result → list_all (slot_stands block.now) slots.now ≡ false }
 {
     let at = place_bytes(bytes, 0, &[record_header(front)]);
-    place_slots(bytes, at, order, block, slots)
+    place_all(bytes, at, order, block, slots)
 }
 
 /// Puts the bytes of a message at the start of others, by its block and where the items of its fields are. Returns how many they are.
 pub(crate) fn spell_message(
     bytes: &mut Vec<u8>,
     env: &Env,
-    slots: &[Slot],
+    slots: &Slots,
     block: &[u8],
 ) -> Result<usize, Misfit>
     requires front { 24 ≤ length block.now }
