@@ -1,7 +1,8 @@
 /* Tests of the memory that the streams of gazhdor.h keep between pieces: held FILE.. Each FILE is fed in pieces of 64 KB to a stream of each
  * kind, whose text is freed after each piece. Then no more than 100,000 bytes are held, however long the texts were, and none once the stream
  * is closed. So is a file of messages of one byte each, of which the rows are 275,163 bytes: there what stands around the values of one
- * message is kept, and no more. Bytes are counted: link with --wrap=malloc, realloc and free. */
+ * message is kept, and no more. The blocks of each FILE are made a file again, and never are more bytes held
+ * than twice those of the file and of the text that is handed over, and 64 KB. Bytes are counted: link with --wrap=malloc, realloc and free. */
 #include "gazhdor.h"
 
 #include <malloc.h>
@@ -9,7 +10,13 @@
 #include <stdlib.h>
 #include <string.h>
 
-static size_t held;
+static size_t held, peak;
+
+static void count(size_t gone, size_t come)
+{
+    held += come - gone;
+    peak = held > peak ? held : peak;
+}
 
 void *__real_malloc(size_t size);
 void *__real_realloc(void *block, size_t size);
@@ -18,7 +25,7 @@ void __real_free(void *block);
 void *__wrap_malloc(size_t size)
 {
     void *block = __real_malloc(size);
-    held += malloc_usable_size(block);
+    count(0, malloc_usable_size(block));
     return block;
 }
 
@@ -27,13 +34,13 @@ void *__wrap_realloc(void *old, size_t size)
     size_t before = malloc_usable_size(old);
     void *block = __real_realloc(old, size);
     if (block != NULL)
-        held += malloc_usable_size(block) - before;
+        count(before, malloc_usable_size(block));
     return block;
 }
 
 void __wrap_free(void *block)
 {
-    held -= malloc_usable_size(block);
+    count(malloc_usable_size(block), 0);
     __real_free(block);
 }
 
@@ -126,9 +133,23 @@ static size_t hostile(uint8_t *bytes)
     return data + 16;
 }
 
-int main(int count, char **words)
+/* ---- files from blocks */
+
+static void made_again(const char *name, const uint8_t *bytes, size_t length)
 {
-    for (int i = 1; i < count; i++) {
+    gazhdor_text blocks = GAZHDOR_NO_TEXT, again = GAZHDOR_NO_TEXT;
+    WANT(gazhdor_messages(bytes, length, &blocks).status == GAZHDOR_GOOD, "%s\n", name);
+    peak = held;
+    size_t before = held;
+    WANT(gazhdor_from_messages(blocks.bytes, blocks.length, &again).status == GAZHDOR_GOOD && again.length == length, "%s\n", name);
+    WANT(peak - before <= 4 * length + PIECE, "%s: %zu bytes held for %zu of the file\n", name, peak - before, length);
+    gazhdor_free(again);
+    gazhdor_free(blocks);
+}
+
+int main(int words_count, char **words)
+{
+    for (int i = 1; i < words_count; i++) {
         FILE *file = fopen(words[i], "rb");
         WANT(file != NULL && fseek(file, 0, SEEK_END) == 0, "%s\n", words[i]);
         size_t length = (size_t)ftell(file);
@@ -138,6 +159,7 @@ int main(int count, char **words)
         fclose(file);
         held = 0;
         fed_to_each(words[i], bytes, length, PIECE, MOST);
+        made_again(words[i], bytes, length);
         __real_free(bytes);
     }
     static uint8_t bytes[4096];

@@ -1,5 +1,5 @@
 //! Blocks of messages.
-ghost use Rattle.std.specs.Prelude.{◌≡◌, ◌≤◌, ◌+◌, ◌++◌, ◌∷◌, All, None, IfErr, IfOk, IfSome, IsNone, OnErr, OnOk, false, flat_map, length, sum_by, take, true};
+ghost use Rattle.std.specs.Prelude.{◌≡◌, ◌≤◌, ◌+◌, ◌++◌, ◌∷◌, All, None, IfErr, IfOk, IfSome, IsNone, OnErr, OnOk, false, flat_map, length, max, sum_by, take, true};
 ghost use Rattle.std.specs.Global.{Global};
 ghost use Rattle.std.specs.List.{list_all};
 ghost use Rattle.fit_base.specs.Fields.{items_bytes};
@@ -82,7 +82,8 @@ fn record_header(front: MessageFront) -> u8
 /// Makes bytes at least this many, with zeros at the end.
 #[inline(always)]
 fn make_room(bytes: &mut Vec<u8>, size: usize) -> Result<(), AllocError>
-    ensures { OnOk result (size ≤ length bytes.new.items) }
+    ensures enough { OnOk result (size ≤ length bytes.new.items) }
+    ensures few { length bytes.new.items ≤ max size (length bytes.old.items) }
 {
     if bytes.len() < size {
         bytes.resize(size, 0)?;
