@@ -16,6 +16,7 @@ mod DefinitionFacts
 pub mod OneFinding
 mod PlacedItems
 mod MessageFacts
+mod FullSlots
 mod SoundFiles
 mod DefinedSlots
 mod HeaderForms

@@ -3,6 +3,7 @@ use Rattle.std.proofs.Common.{◌≡◌, ◌∙◌, ◌⊎◌, ℕ, zero, suc, �
 use Rattle.std.proofs.Common.{length, map, take, drop, refl, sym, ap, subst, arith, flat_map, get_or}
 use Rattle.std.proofs.Math.Nat.{mul_comm, suc-mul}
 use Rattle.std.proofs.Math.Seq.{take-append_seam}
+use Rattle.std.proofs.lemmas.Bool.Decides.{nat_tests}
 use Rattle.std.proofs.lemmas.Bool.{and_parts, or_cases, eqb-true}
 use Rattle.std.proofs.lemmas.List.{length-map, length-take-le, length-drop, take-append-drop}
 use Rattle.std.proofs.lemmas.List.Folds.{flat_map-map}
@@ -10,7 +11,7 @@ use Rattle.std.proofs.lemmas.Grind.{flat_map-append}
 use Rattle.std.proofs.lemmas.List.Sums.{sum_by-cons}
 use Rattle.std.specs.Global.{Global}
 use Rattle.std.specs.List.{AllByRecursion, list_all}
-use Rattle.std.specs.Prelude.{◌==◌, ◌||◌, ◌&&◌, sum_by, IsSomeAnd, Option, Some, option_map, unwrap_or}
+use Rattle.std.specs.Prelude.{◌==◌, ◌||◌, ◌&&◌, nat_lt, not, sum_by, IsSomeAnd, Option, Some, option_map, unwrap_or}
 use Rattle.fit_base.proofs.Bytes.{found_passes}
 use Rattle.fit_base.proofs.ByteLists.{IsBytes-drop, IsBytes-take}
 use Rattle.fit_base.proofs.NumberLaws.{number-below}
@@ -26,9 +27,11 @@ use Rattle.fit_record.specs.declared.definition.FieldDef.{FieldDef}
 use Rattle.fit_record.specs.declared.environment.Defined.{Defined}
 use Rattle.fit_record.specs.declared.message.Record.TheVariants.{Values as Data}
 use Rattle.fit_record.specs.declared.message.Values.{Values}
-use Rattle.fit_from_messages.specs.SaysChain.{Begun, fields_of, known_to, message_said, slots_at}
+use Rattle.fit_from_messages.specs.SaysChain.{Begun, fields_of, known_to, message_said, slots_at, why_no_message}
+use Rattle.fit_from_messages.specs.declared.fault.BlockReason.{BlockReason}
+use Rattle.fit_from_messages.specs.declared.fault.BlockReason.TheVariants as why
 use Rattle.fit_from_messages.specs.declared.slot.Slot.{Slot}
-use Rattle.fit_from_messages.specs.Parts.{byte_at, items_read, offset_in, slot_stands}
+use Rattle.fit_from_messages.specs.Parts.{byte_at, items_read, local_stands, offset_in, slot_stands}
 use Rattle.fit_from_messages.specs.inner.Slots.{IsSlot, Knows, SlotsFit, slot_size}
 
 -- ---- widths
@@ -197,3 +200,15 @@ size_known o p n is told = ap (λ x. unwrap_or x 0) (told ∙ ap (option_map mes
 pub all_written : (new old : List ℕ) (n : ℕ) → n ≡ length old → length new ≡ length old → take n (new ++ drop (length new) old) ≡ new
 all_written new old n is same =
     ap (λ k. take k (new ++ drop (length new) old)) (is ∙ sym same) ∙ take-append_seam new (drop (length new) old)
+
+-- ---- no local message type
+
+not_type : (local : ℕ) (is_normal : Bool) → 16 ≤ local → nat_lt local (cond is_normal 16 4) ≡ false
+not_type local true past = grind (arith, nat_tests)
+not_type local false past = grind (arith, nat_tests)
+
+fails_first : (b : Bool) (x : BlockReason) (rest : Option BlockReason) → b ≡ false → cond (not b) (Some x) rest ≡ Some x
+fails_first b x rest fails = rw fails refl
+
+pub no_local : (f : Begun) (block : List ℕ) → 16 ≤ byte_at 6 block → why_no_message f block ≡ Some why.Local
+no_local f block past = fails_first (local_stands block) why.Local _ (not_type (byte_at 6 block) (byte_at 7 block == 0xFF) past)

@@ -7,8 +7,11 @@ use Rattle.std.specs.Prelude.{◌==◌, not, nat_lt, is_none, Option, Some, None
 use Rattle.std.specs.List.{list_all}
 use Rattle.fit_from_messages.proofs.OneReading.{no_block}
 use Rattle.fit_from_messages.specs.SaysChain.{Begun, CannotGoOn, IsBlock, IsRefusedBlock, Said, Say, after, joined_blocks, nothing_said, reason}
-use Rattle.fit_from_messages.specs.SaysChain.{reason_in, slots_at, why_no_definition, why_no_message, known_to}
+use Rattle.fit_from_messages.specs.FromBlocks.{BeginAFile}
+use Rattle.fit_from_messages.specs.SaysChain.{SaysChain, begun_by, reason_in, slots_at, why_no_definition, why_no_message, known_to}
 use Rattle.fit_record.specs.Environment.{defined_at}
+use Rattle.fit_record.specs.declared.file.FitFile.{FitFile}
+use Rattle.std.specs.Global.{Global}
 use Rattle.fit_from_messages.specs.Parts.{byte_at, entries_stand, kind, local_stands, offset_stands, sizes_fit, slot_stands}
 use Rattle.fit_from_messages.specs.declared.chain.Chain.{Chain}
 use Rattle.fit_from_messages.specs.declared.fault.BlockReason.{BlockReason}
@@ -46,6 +49,60 @@ one_said bytes rest block left n c d h is begins stands then sound = record {
 
 pub shorter : (rest block left : List ℕ) → IsBlock block → rest ≡ block ++ left → length left < length rest
 shorter rest block left is begins = omega (arith, ap length begins, length-append block left, is.front)
+
+-- ---- blocks in which a file has begun
+
+said_none : (c : Chain) → option_map begun_of c.current ≡ None → c.current ≡ None
+said_none c none = go c.current none
+  where
+    go : (o : Option OpenFile) → option_map begun_of o ≡ None → o ≡ None
+    go None e = refl
+    go (Some f) e = cc e
+
+begun_before : (bytes rest block left : List ℕ) (n : ℕ) (c : Chain) → HasSaid bytes rest n c → rest ≡ block ++ left → IsBlock block
+    → (c.current ≡ None → ⊥) → BeginAFile bytes
+begun_before bytes rest block left n c h begins is begun = go h.blocks h.say h.are_joined
+  where
+    go : (blocks : List (List ℕ)) → Say nothing_said blocks (said_yet c) → bytes ≡ joined_blocks blocks ++ rest → BeginAFile bytes
+    go [] say joined = absurd (begun (said_none c (sym (ap (λ s. s.current) say))))
+    go (b ∷ []) say joined = record {
+      header = b;
+      next = block;
+      rest = left;
+      are_joined = joined ∙ append_assoc b [] rest ∙ ap (λ x. b ++ x) begins;
+      is_block = say.0;
+      stands = say.1;
+      is_next = is;
+    }
+    go (b ∷ (d ∷ blocks)) say joined = record {
+      header = b;
+      next = d;
+      rest = joined_blocks blocks ++ rest;
+      are_joined = joined ∙ append_assoc b (d ++ joined_blocks blocks) rest ∙ ap (λ x. b ++ x) (append_assoc d (joined_blocks blocks) rest);
+      is_block = say.0;
+      stands = say.1;
+      is_next = say.2.0;
+    }
+
+-- a chain has a file, which has begun and ended
+pub begun_in_chain : (blocks : List ℕ) (files : List (FitFile Global)) → SaysChain blocks files → BeginAFile blocks
+begun_in_chain blocks files says = go says.blocks says.say says.are_joined
+  where
+    go : (each : List (List ℕ)) → Say nothing_said each (record { files = files; current = None }) → blocks ≡ joined_blocks each → BeginAFile blocks
+    go [] say joined = absurd (omega (arith, says.some, ap (λ s. length s.files) say))
+    go (b ∷ []) say joined = absurd (open_end (ap (λ s. s.current) say.2))
+      where
+        open_end : Some (begun_by b) ≡ None → ⊥
+        open_end e = cc e
+    go (b ∷ (d ∷ more)) say joined = record {
+      header = b;
+      next = d;
+      rest = joined_blocks more;
+      are_joined = joined;
+      is_block = say.0;
+      stands = say.1;
+      is_next = say.2.0;
+    }
 
 -- ---- a block that can't stand where it is
 
@@ -105,10 +162,11 @@ goes_wrong s rest block left why.Cut begins is bad = absurd (never_cut s block b
 goes_wrong s rest block left x begins is bad = (block, left, begins, is, bad)
 
 pub misfit_fault : (bytes rest block left : List ℕ) (n place : ℕ) (c : Chain) (m : Misfit) → HasSaid bytes rest n c → place ≡ length bytes - length rest
-    → rest ≡ block ++ left → IsBlock block → IsMisfitBlock (reason (said_yet c) block) m → IsUnreadBlock bytes (fault_at n place m)
-misfit_fault bytes rest block left n place c (misfit.Block x) h at begins is bad =
+    → rest ≡ block ++ left → IsBlock block → IsMisfitBlock (reason (said_yet c) block) m → (m ≡ misfit.NoMemory → c.current ≡ None → ⊥)
+    → IsUnreadBlock bytes (fault_at n place m)
+misfit_fault bytes rest block left n place c (misfit.Block x) h at begins is bad memory =
     refused bytes rest n place c x h at (goes_wrong (said_yet c) rest block left x begins is bad)
-misfit_fault bytes rest block left n place c misfit.NoMemory h at begins is bad = tt
+misfit_fault bytes rest block left n place c misfit.NoMemory h at begins is bad memory = begun_before bytes rest block left n c h begins is (memory refl)
 
 pub cut_here : (bytes rest : List ℕ) (n place : ℕ) (c : Chain) → HasSaid bytes rest n c → place ≡ length bytes - length rest → 0 < length rest
     → ((block more : List ℕ) → rest ≡ block ++ more → IsBlock block → ⊥) → IsRefusedBlock bytes n place why.Cut
@@ -119,13 +177,6 @@ cut_here bytes rest n place c h at some none = refused bytes rest n place c why.
 none_left : (rest : List ℕ) → length rest ≡ 0 → rest ≡ []
 none_left [] empty = refl
 none_left (b ∷ rest) empty = absurd (omega (arith, empty))
-
-said_none : (c : Chain) → option_map begun_of c.current ≡ None → c.current ≡ None
-said_none c none = go c.current none
-  where
-    go : (o : Option OpenFile) → option_map begun_of o ≡ None → o ≡ None
-    go None e = refl
-    go (Some f) e = cc e
 
 pub cut_off : (bytes rest : List ℕ) (n : ℕ) (c : Chain) → HasSaid bytes rest n c → length rest ≡ 0
     → (c.current ≡ None → 0 < length c.files → ⊥) → IsRefusedBlock bytes n (length bytes) why.Cut

@@ -18,6 +18,7 @@ use Rattle.fit_record.specs.declared.file.FitFile.{FitFile}
 use Rattle.fit_record.specs.declared.fits.ShapeFault.{ShapeFault}
 use Rattle.fit_report.specs.Reports.{Channel}
 use Rattle.fit_from_messages.proofs.OneReading.{says_one, says_or_refused}
+use Rattle.fit_from_messages.proofs.ReadChains.{begun_in_chain}
 use Rattle.fit_from_messages.specs.FromBlocks.{AreBlocksOf, AreUnwritable, FromBlocks, FromBlocksFault, FromBlocksOf, unwritten_fault}
 use Rattle.fit_from_messages.specs.declared.fault.BlocksFault.{BlocksFault}
 use Rattle.fit_from_messages.specs.declared.fault.BlocksFault.TheVariants as faults
@@ -51,7 +52,7 @@ module _ (exact : FaultsAreExact Global) (blocks : List ℕ) (files : List (FitF
 
   pub from_fault : (fault : EncodeFault) → UnlessWrite fault (IsFirstFault files fault) → IfWrite fault (λ written. IsWellFormedChain chain_limit files)
       → IfWrite fault (StopsAt sink.before sink.after sink.failed (chain_bytes files)) → FromBlocksFault blocks sink (unwritten_fault fault)
-  from_fault NoMemory wrong good stops = tt
+  from_fault NoMemory wrong good stops = begun_in_chain blocks files are.says
   from_fault (Write written) wrong good stops = (files, chain_bytes files, blocks_of good, stops)
   from_fault (TooLong file index) wrong good stops = (files, are.says, wrong)
   from_fault (ZeroIsSum file) wrong good stops = (files, are.says, wrong)
@@ -64,7 +65,7 @@ module _ (exact : FaultsAreExact Global) (blocks : List ℕ) (files : List (FitF
 
 pub from_unread : (blocks : List ℕ) (sink : Channel) (fault : BlocksFault) → IsUnreadBlock blocks fault → FromBlocksFault blocks sink fault
 from_unread blocks sink (faults.Block number place reason) h = h
-from_unread blocks sink faults.NoMemory h = tt
+from_unread blocks sink faults.NoMemory h = h
 from_unread blocks sink fault h = absurd h
 
 -- ---- blocks of a chain

@@ -1,5 +1,5 @@
 -- What `from_messages` answers and writes.
-use Rattle.std.specs.Prelude.{◌≡◌, ℕ, false, List, Result, Ok, Err}
+use Rattle.std.specs.Prelude.{◌≡◌, ℕ, false, List, ◌++◌, None, Result, Ok, Err}
 use Rattle.std.specs.Global.{Global}
 use Rattle.std.specs.Io.KnownBytes.{Appends}
 use Rattle.fit_record.specs.declared.file.FitFile.{FitFile}
@@ -10,7 +10,7 @@ use Rattle.fit_encode.specs.Faults.{IsFirstFault, StopsAt}
 use Rattle.fit_report.specs.Reports.{Channel}
 use Rattle.fit_from_messages.specs.declared.fault.BlocksFault.{BlocksFault}
 use Rattle.fit_from_messages.specs.declared.fault.BlocksFault.TheVariants.{Block, Encode, NoMemory, Write}
-use Rattle.fit_from_messages.specs.SaysChain.{IsRefusedBlock, SaysChain}
+use Rattle.fit_from_messages.specs.SaysChain.{IsBlock, IsRefusedBlock, SaysChain, nothing_said, reason}
 
 -- the fault of files that blocks say and that weren't written
 abbrev pub unwritten_fault : EncodeFault → BlocksFault
@@ -40,9 +40,19 @@ AreWrong blocks (Encode (encode.TooLong file index)) = AreUnwritable blocks (enc
 AreWrong blocks (Encode (encode.ZeroIsSum file)) = AreUnwritable blocks (encode.ZeroIsSum file)
 AreWrong blocks _ = ⊥
 
+-- They begin with the block of a header that can stand there, and a block after it. Only then is memory taken.
+pub record BeginAFile (blocks : List ℕ) : Type 0 where
+  pub header : List ℕ
+  pub next : List ℕ
+  pub rest : List ℕ
+  pub are_joined : blocks ≡ header ++ (next ++ rest)
+  pub is_block : IsBlock header
+  pub stands : reason nothing_said header ≡ None
+  pub is_next : IsBlock next
+
 -- Why blocks aren't written as a chain: something is wrong with them, memory was refused, or the sink failed in the bytes of the chain.
 abbrev pub FromBlocksFault : List ℕ → Channel → BlocksFault → Type 0
-FromBlocksFault blocks sink NoMemory = Unit {0}
+FromBlocksFault blocks sink NoMemory = BeginAFile blocks
 FromBlocksFault blocks sink (Write written) =
     (files : List (FitFile Global)) × (bytes : List ℕ) × AreBlocksOf blocks files bytes × StopsAt sink.before sink.after sink.failed bytes written
 FromBlocksFault blocks sink fault = AreWrong blocks fault

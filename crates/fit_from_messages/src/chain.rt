@@ -3,6 +3,7 @@ ghost use Rattle.std.specs.Prelude.{◌≡◌, ◌↔◌, ◌<◌, ◌∷◌, �
 ghost use Rattle.fit_encode.specs.Encoding.{file_of};
 ghost use Rattle.fit_frame.specs.Header.{FormFits};
 ghost use Rattle.fit_from_messages.specs.SaysChain.{IsBlock, after, nothing_said, reason};
+ghost use Rattle.fit_from_messages.specs.declared.misfit.Misfit.TheVariants.{NoMemory};
 ghost use Rattle.fit_from_messages.specs.inner.Chains.{IsGoodChain, said_yet};
 ghost use Rattle.fit_from_messages.specs.inner.Misfits.{IsMisfitBlock};
 ghost use Rattle.fit_from_messages.specs.inner.OpenFiles.{IsGoodFile, begun_of};
@@ -11,7 +12,7 @@ use crate::BlockReason;
 use crate::file::{OpenFile, SlotLists};
 use crate::header::{header_in, header_stands};
 use crate::misfit::Misfit;
-use fit_base::Entries;
+use crate::slot::Slots;
 use fit_encode::{SpelledFiles, SpelledRecords};
 use fit_frame::Header;
 use fit_record::Env;
@@ -41,22 +42,22 @@ fn no_slots(alloc: Global) -> SlotLists
     ensures { result ≡ replicate 16 [] }
 {
     [
-        Entries::new(alloc),
-        Entries::new(alloc),
-        Entries::new(alloc),
-        Entries::new(alloc),
-        Entries::new(alloc),
-        Entries::new(alloc),
-        Entries::new(alloc),
-        Entries::new(alloc),
-        Entries::new(alloc),
-        Entries::new(alloc),
-        Entries::new(alloc),
-        Entries::new(alloc),
-        Entries::new(alloc),
-        Entries::new(alloc),
-        Entries::new(alloc),
-        Entries::new(alloc),
+        Slots::none(alloc),
+        Slots::none(alloc),
+        Slots::none(alloc),
+        Slots::none(alloc),
+        Slots::none(alloc),
+        Slots::none(alloc),
+        Slots::none(alloc),
+        Slots::none(alloc),
+        Slots::none(alloc),
+        Slots::none(alloc),
+        Slots::none(alloc),
+        Slots::none(alloc),
+        Slots::none(alloc),
+        Slots::none(alloc),
+        Slots::none(alloc),
+        Slots::none(alloc),
     ]
 }
 
@@ -128,6 +129,7 @@ impl Chain {
         ensures after { OnOk result (said_yet self.new ≡ after (said_yet self.old) block.now) }
         ensures sound { OnOk result (IsGoodChain self.new) }
         ensures err { IfErr result (IsMisfitBlock (reason (said_yet self.old) block.now)) }
+        ensures memory { IfErr result (λ misfit. misfit ≡ NoMemory → ⊥) }
     {
         if block[4] != 1 || !self.files.has_room() {
             return Err(Misfit::Block(BlockReason::Kind));
@@ -182,6 +184,8 @@ impl Chain {
         ensures after { OnOk result (said_yet self.new ≡ after (said_yet self.old) block.now) }
         ensures sound { OnOk result (IsGoodChain self.new) }
         ensures err { IfErr result (IsMisfitBlock (reason (said_yet self.old) block.now)) }
+        ensures memory { IfErr result (λ misfit. misfit ≡ NoMemory
+            → self.old.current ≡ None → ⊥) }
     {
         if self.current.is_none() {
             self.begin_file(alloc, block)

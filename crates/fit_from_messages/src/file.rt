@@ -1,5 +1,5 @@
 //! A file of which some blocks have come.
-ghost use Rattle.std.specs.Prelude.{◌≡◌, ◌≤◌, ◌+◌, ◌<◌, ◌++◌, ◌∷◌, [], None, IfErr, OnErr, OnOk, Some, drop, length, slice_index_or, slice_set};
+ghost use Rattle.std.specs.Prelude.{◌≡◌, ◌≤◌, ◌+◌, ◌<◌, ◌++◌, ◌∷◌, [], None, IfErr, IfSome, IsNone, OnErr, OnOk, Some, drop, length, slice_index_or, slice_set};
 ghost use Rattle.std.specs.Global.{Global};
 ghost use Rattle.fit_record.specs.declared.environment.Defined.{Defined};
 ghost use Rattle.fit_record.specs.declared.message.Record.TheVariants.{Define};
@@ -14,7 +14,7 @@ use crate::BlockReason;
 use crate::definition::read_definition;
 use crate::message::{learn_message, spell_message};
 use crate::misfit::Misfit;
-use crate::slot::Slot;
+use crate::slot::{Slot, Slots};
 use fit_base::{Code, Entries, width_of};
 use fit_encode::SpelledRecords;
 use fit_frame::Header;
@@ -22,7 +22,7 @@ use fit_record::{Env, Layout, MessageDef, Record};
 use std::alloc::{AllocError, Global};
 
 /// For each local message type, where the last definition says that the items of its messages are.
-pub(crate) type SlotLists = [Entries<Slot>; 16];
+pub(crate) type SlotLists = [Slots; 16];
 
 /// A file of which some blocks have come.
 pub(crate) struct OpenFile {
@@ -49,19 +49,17 @@ impl Drop for OpenFile {
     }
 }
 
-/// Where the items of the messages of a local message type are, as far as it is defined.
+/// Where the items of the messages of a local message type are, as far as it is defined. None where there is no such type.
 #[inline(always)]
-fn slots_at(slots: &SlotLists, local: u8) -> &[Slot]
-    ensures { result.now ≡ slice_index_or slots.now local [] }
+fn slots_at(slots: &SlotLists, local: u8) -> Option<&Slots>
+    ensures some { IfSome result (λ found. found.now ≡ slice_index_or slots.now local []) }
+    ensures none { IsNone result → 16 ≤ local }
 {
-    match slots.get(local as usize) {
-        Some(slots) => slots.as_slice(),
-        None => &[],
-    }
+    slots.get(local as usize)
 }
 
 /// Keeps where the items of the messages of a local message type are.
-fn set_slots(slots: &mut SlotLists, local: u8, new: Entries<Slot>)
+fn set_slots(slots: &mut SlotLists, local: u8, new: Slots)
     requires { local < 16 }
     ensures set { slots.new ≡ slice_set slots.old local new }
     ensures length { length slots.old ≡ 16 }
@@ -133,7 +131,7 @@ impl OpenFile {
         if !dev_widths_fit(&self.env, block[5], slots.as_slice()) {
             return Err(Misfit::Block(BlockReason::Size));
         }
-        set_slots(&mut self.slots, block[5], slots);
+        set_slots(&mut self.slots, block[5], Slots::of(alloc, slots)?);
         Ok(())
     }
 
@@ -148,7 +146,9 @@ impl OpenFile {
         ensures err { IfErr result
             (IsMisfitBlock (why_no_message (begun_of self.old) block.now)) }
     {
-        let slots = slots_at(&self.slots, block[6]);
+        let Some(slots) = slots_at(&self.slots, block[6]) else {
+            return Err(Misfit::Block(BlockReason::Local));
+        };
         let end = spell_message(&mut self.message, &self.env, slots, block)?;
         let (bytes, _) = self.message.as_slice().split_at(end);
         self.records.push_message(&self.env, bytes)?;

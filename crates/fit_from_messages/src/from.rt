@@ -127,12 +127,13 @@ fn convert<K: Sink>(alloc: Global, blocks: &[u8], sink: &mut K) -> Result<(), Bl
 /// `Block` for the first block that can't stand where it is, with its number from 0, where it begins among the bytes of all, and the
 /// first reason in their order; at the end of the bytes it is the block that is missing there. `Encode` where the blocks say files that
 /// can't be written: the data is too long, or a checksum of zeros takes the place of one that is 0. Up to here nothing is written.
-/// `Write` where the sink failed after that many bytes of the files. `NoMemory` where an allocation failed.
+/// `Write` where the sink failed after that many bytes of the files. `NoMemory` where an allocation failed: none is made before the block of
+/// a header that can stand there and a block after it.
 pub fn from_messages<K: Sink>(alloc: Global, blocks: &[u8], sink: &mut K) -> Result<(), BlocksFault>
     // The blocks say a well-formed chain, whose bytes are written.
     ensures ok { OnOk result (FromBlocks blocks.now
         (channel K.contents K.has_failed sink.old sink.new)) }
-    // A block can't stand where it is; or the files can't be written; or memory was refused, or the sink failed.
+    // A block can't stand where it is; or the files can't be written; or, after a header and a block, memory was refused; or the sink failed.
     ensures refused { IfErr result (FromBlocksFault blocks.now
         (channel K.contents K.has_failed sink.old sink.new)) }
     ensures unchanged { IfErr result (λ fault. UnlessStopped fault (sink.new ≡ sink.old)) }

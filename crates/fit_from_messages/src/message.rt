@@ -1,5 +1,5 @@
 //! Blocks of messages.
-ghost use Rattle.std.specs.Prelude.{◌≡◌, ◌≤◌, ◌+◌, ◌++◌, ◌∷◌, All, None, IfErr, IfOk, IfSome, IsNone, OnErr, OnOk, false, flat_map, length, sum_by, take, true};
+ghost use Rattle.std.specs.Prelude.{◌≡◌, ◌≤◌, ◌+◌, ◌++◌, ◌∷◌, All, None, IfErr, IfOk, IfSome, IsNone, OnErr, OnOk, false, flat_map, length, max, sum_by, take, true};
 ghost use Rattle.std.specs.Global.{Global};
 ghost use Rattle.std.specs.List.{list_all};
 ghost use Rattle.fit_base.specs.Fields.{items_bytes};
@@ -15,8 +15,8 @@ ghost use Rattle.fit_from_messages.specs.inner.Slots.{IsSlot, Knows, SlotsFit, s
 
 use crate::BlockReason;
 use crate::misfit::Misfit;
-use crate::place::place_slots;
-use crate::slot::Slot;
+use crate::place::place_all;
+use crate::slot::Slots;
 use fit_base::Order;
 use fit_encode::place_bytes;
 use fit_record::{Description, Env};
@@ -82,7 +82,8 @@ fn record_header(front: MessageFront) -> u8
 /// Makes bytes at least this many, with zeros at the end.
 #[inline(always)]
 fn make_room(bytes: &mut Vec<u8>, size: usize) -> Result<(), AllocError>
-    ensures { OnOk result (size ≤ length bytes.new.items) }
+    ensures enough { OnOk result (size ≤ length bytes.new.items) }
+    ensures few { length bytes.new.items ≤ max size (length bytes.old.items) }
 {
     if bytes.len() < size {
         bytes.resize(size, 0)?;
@@ -98,7 +99,7 @@ fn write_message(
     front: MessageFront,
     order: Order,
     block: &[u8],
-    slots: &[Slot],
+    slots: &Slots,
 ) -> Option<usize>
     requires fits { DataHeaderFits front.local front.offset }
     requires slots { All IsSlot slots.now }
@@ -112,14 +113,14 @@ fn write_message(
     ensures none { IsNone result → list_all (slot_stands block.now) slots.now ≡ false }
 {
     let at = place_bytes(bytes, 0, &[record_header(front)]);
-    place_slots(bytes, at, order, block, slots)
+    place_all(bytes, at, order, block, slots)
 }
 
 /// Puts the bytes of a message at the start of others, by its block and where the items of its fields are. Returns how many they are.
 pub(crate) fn spell_message(
     bytes: &mut Vec<u8>,
     env: &Env,
-    slots: &[Slot],
+    slots: &Slots,
     block: &[u8],
 ) -> Result<usize, Misfit>
     requires front { 24 ≤ length block.now }

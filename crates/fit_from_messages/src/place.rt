@@ -9,7 +9,7 @@ ghost use Rattle.fit_record.specs.ReadMessages.{numbers_of};
 ghost use Rattle.fit_from_messages.specs.Parts.{items_read, slot_stands};
 ghost use Rattle.fit_from_messages.specs.inner.Slots.{IsSlot, slot_size};
 
-use crate::slot::Slot;
+use crate::slot::{Slot, Slots};
 use fit_base::{Order, bits_at};
 use fit_encode::{place_big, place_bytes};
 
@@ -73,9 +73,9 @@ fn place_slot(bytes: &mut [u8], at: usize, order: Order, block: &[u8], slot: Slo
     }
 }
 
-/// Writes the items of all fields, unless some aren't in the block.
+/// Writes the items of these fields, unless some aren't in the block.
 #[inline(always)]
-pub(crate) fn place_slots(
+fn place_slots(
     bytes: &mut [u8],
     at: usize,
     order: Order,
@@ -99,4 +99,28 @@ pub(crate) fn place_slots(
         end = place_slot(bytes, end, order, block, *slot);
     }
     Some(end)
+}
+
+/// Writes the items of all fields, unless some aren't in the block. Fields without items are passed over.
+#[inline(always)]
+pub(crate) fn place_all(
+    bytes: &mut [u8],
+    at: usize,
+    order: Order,
+    block: &[u8],
+    slots: &Slots,
+) -> Option<usize>
+    requires slots { All IsSlot slots.now }
+    requires room { at + sum_by slot_size slots.now + 8 ≤ length bytes.old }
+    ensures size { length bytes.new ≡ length bytes.old }
+    ensures stand { IfSome result (λ end. list_all (slot_stands block.now) slots.now ≡ true) }
+    ensures end { IfSome result (λ end. end ≡ at + sum_by slot_size slots.now) }
+    ensures text { IfSome result (λ end. take end bytes.new ≡ take at bytes.old
+        ++ flat_map (λ s. items_bytes order (items_read block.now s)) slots.now) }
+    ensures none { IsNone result → list_all (slot_stands block.now) slots.now ≡ false }
+{
+    if slots.reach() > block.len() {
+        return None;
+    }
+    place_slots(bytes, at, order, block, slots.full())
 }

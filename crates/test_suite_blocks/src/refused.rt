@@ -95,6 +95,27 @@ fn messages_refused(rt: HostRuntime) {
 }
 
 #[test]
+fn no_items_past_the_block(rt: HostRuntime) {
+    let mut blocks = blocks_of(&rt, rt.alloc(), &BOTH_ORDERS);
+    // The timestamp has no items. They may begin where the block of 56 bytes ends, and no further.
+    change(&rt, blocks.as_mut_slice(), 32 + 48 + 10, 0);
+    change(&rt, blocks.as_mut_slice(), 32 + 48 + 12, 56);
+    let mut sink = CutSink::<128>::new(128);
+    equal(
+        &rt,
+        &from_messages(rt.alloc(), blocks.as_slice(), &mut sink),
+        &Ok(()),
+    );
+    change(&rt, blocks.as_mut_slice(), 32 + 48 + 12, 57);
+    let fault = BlocksFault::Block {
+        number: 2,
+        place: 192,
+        reason: BlockReason::Items,
+    };
+    refuse(&rt, rt.alloc(), blocks.as_slice(), fault);
+}
+
+#[test]
 fn blocks_missing(rt: HostRuntime) {
     let blocks = blocks_of(&rt, rt.alloc(), &BOTH_ORDERS);
     let all = blocks.as_slice();

@@ -7,6 +7,7 @@ use Rattle.fit_record.specs.declared.file.FitFile.{FitFile}
 use Rattle.fit_record.specs.Environment.{empty_environment}
 use Rattle.fit_record.specs.Files.{chain_limit}
 use Rattle.fit_record.specs.Records.{AllFit}
+use Rattle.fit_from_messages.specs.FromBlocks.{BeginAFile}
 use Rattle.fit_from_messages.specs.SaysChain.{IsRefusedBlock, Said, Say, SaysChain, joined_blocks, nothing_said}
 use Rattle.fit_from_messages.specs.declared.chain.Chain.{Chain}
 use Rattle.fit_from_messages.specs.declared.fault.BlocksFault.{BlocksFault}
@@ -43,10 +44,10 @@ pub record HasSaid (bytes rest : List ℕ) (count : ℕ) (c : Chain) : Type 0 wh
   pub few : count + length rest ≤ length bytes
   pub sound : IsGoodChain c
 
--- A block can't stand where it is, or memory was refused.
+-- A block can't stand where it is, or memory was refused after a header.
 abbrev pub IsUnreadBlock : List ℕ → BlocksFault → Type 0
 IsUnreadBlock bytes (Block number place reason) = IsRefusedBlock bytes number place reason
-IsUnreadBlock bytes NoMemory = Unit {0}
+IsUnreadBlock bytes NoMemory = BeginAFile bytes
 IsUnreadBlock bytes _ = ⊥
 
 -- the fault at the block of this number and place

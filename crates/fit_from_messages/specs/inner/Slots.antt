@@ -1,5 +1,5 @@
 -- Where the items of fields are. No public contract names these.
-use Rattle.std.specs.Prelude.{◌≡◌, ◌⊎◌, ℕ, ◌*◌, List, [], ◌∷◌}
+use Rattle.std.specs.Prelude.{◌≡◌, ◌⊎◌, ◌==◌, Bool, if◌then◌else◌, max, not, ℕ, ◌*◌, List, [], ◌∷◌}
 use Rattle.fit_base.specs.BaseTypes.{item_width}
 use Rattle.std.specs.Global.{Global}
 use Rattle.fit_record.specs.Environment.{Environment}
@@ -9,6 +9,14 @@ use Rattle.fit_from_messages.specs.declared.slot.Slot.{Slot}
 -- how many bytes they have
 abbrev pub slot_size : Slot → ℕ
 slot_size s = s.width * s.count
+
+abbrev pub has_items : Slot → Bool
+has_items s = not (slot_size s == 0)
+
+-- the farthest place of those without items
+abbrev pub reach_of : List Slot → ℕ
+reach_of [] = 0
+reach_of (s ∷ slots) = if has_items s then reach_of slots else max s.place (reach_of slots)
 
 -- Each has one of the widths of items.
 abbrev pub IsSlot : Slot → Type 0

@@ -12,7 +12,7 @@ pub returns-in-Err-clause-err : goal.returns-in-Err-clause-err
 returns-in-Err-clause-err c =
     subst (IsUnreadBlock c.args.blocks.now) (sym c.fault_at.ensures)
     (misfit_fault c.args.blocks.now c.args.rest.now c.in-Some.block.now c.in-Some.after.now c.args.number _ c.args.chain.now c.in-Err.misfit
-    c.requires.said refl c.in-Some.ensures.rest c.in-Some.ensures.block c.in-Err.ensures.err)
+    c.requires.said refl c.in-Some.ensures.rest c.in-Some.ensures.block c.in-Err.ensures.err c.in-Err.ensures.memory)
 
 pub returns-in_default-clause-err : goal.returns-in_default-clause-err
 returns-in_default-clause-err c =

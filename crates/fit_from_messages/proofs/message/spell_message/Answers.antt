@@ -29,7 +29,7 @@ write_message-requires-clause-room c =
     (subst (λ o. IfSome o (λ p. SlotsFit (layout p ++ dev_layout p) c.args.slots.now)) defined c.requires.fit) in
     let size : c.in-Some-length.size ≡ message_size p =
     size_known (defined_at c.args.env.now (byte_at 6 c.args.block.now)) p c.in-Some-length.size defined (search rules) in
-    omega (arith, same, size, c.in_ok-make_room.ensures, ap length c.as_mut_slice.ensures.value)
+    omega (arith, same, size, c.in_ok-make_room.ensures.enough, ap length c.as_mut_slice.ensures.value)
 
 pub returns-in-Some-write_message-clause-message : goal.returns-in-Some-write_message-clause-message
 returns-in-Some-write_message-clause-message c = λ f knows.

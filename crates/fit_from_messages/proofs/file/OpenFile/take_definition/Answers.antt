@@ -48,4 +48,4 @@ returns-clause-sound c =
     c.in_ok-definition.ensures.readable (slice_is_bytes c.args.block.now c.type_inv.block) c.in_ok-definition.ensures.definition (search rules)
     (c.as_slice.ensures ∙ c.in_ok-definition.ensures.slots) c.dev_widths_fit.result c.dev_widths_fit.ensures ∙ c.if-not-dev_widths_fit.false)
     refl (search rules) refl
-    (c.set_slots.ensures.set ∙ ap (slice_set c.args.self.now.slots (byte_at 5 c.args.block.now)) (sym c.as_slice.ensures))
+    (c.set_slots.ensures.set ∙ ap (slice_set c.args.self.now.slots (byte_at 5 c.args.block.now)) (c.in_ok-of.ensures ∙ sym c.as_slice.ensures))
