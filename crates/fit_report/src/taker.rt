@@ -12,6 +12,7 @@ ghost use Rattle.fit_report.specs.inner.Taking.{TakesAhead};
 
 use crate::telling::FULL_TEXT;
 use fit_decode::Decoder;
+use fit_record::header::is_definition;
 use std::alloc::AllocError;
 
 /// Takes in data messages by their bytes, and puts their texts: for a `Report` that skips them.
@@ -68,6 +69,15 @@ fn take_ahead<T: MessageTaker>(
     }
 }
 
+/// Whether the first byte of a piece may head a data message.
+#[inline(always)]
+fn begins_message(piece: &[u8]) -> bool {
+    match piece.first() {
+        Some(byte) => !is_definition(*byte),
+        None => false,
+    }
+}
+
 /// Takes in a data message at the front of a piece that describes something, and feeds it. Returns how many bytes it has, or 0 where there is none.
 #[cold]
 #[inline(never)]
@@ -117,9 +127,12 @@ pub fn take_messages<T: MessageTaker>(
     ensures viable { IsViable Global chain_limit decoder.new.bytes }
 {
     let used = take_ahead(taker, decoder, piece, text)?;
-    if used == 0 {
-        return take_description(taker, decoder, piece, text);
+    if used > 0 {
+        decoder.skip_messages(piece, used);
+        return Ok(used);
     }
-    decoder.skip_messages(piece, used);
-    Ok(used)
+    if !begins_message(piece) {
+        return Ok(0);
+    }
+    take_description(taker, decoder, piece, text)
 }
