@@ -1,4 +1,5 @@
-"""The cases that the tests of several languages read, by tests/cases: nearest names, labels of fields, and what is mended."""
+"""The cases that the tests of several languages read, by tests/cases: nearest names, labels of fields, and what is
+mended."""
 import json
 import os
 import unittest
@@ -39,7 +40,8 @@ class Shared(unittest.TestCase):
 class Names(unittest.TestCase):
     def test_public(self):
         """What `dir` has is what the module promises, and nothing of its own."""
-        self.assertEqual({name for name in dir(gazhdor) if not name.startswith("__")}, {*gazhdor.__all__, "errors"} - {"__version__"})
+        found = {name for name in dir(gazhdor) if not name.startswith("__")}
+        self.assertEqual(found, {*gazhdor.__all__, "errors"} - {"__version__"})
         for name in gazhdor.__all__:
             self.assertTrue(hasattr(gazhdor, name), name)
 
