@@ -40,7 +40,22 @@ def _read(*parts): path = os.path.join(*parts) try: with open(path, "rb") as fil
 FileNotFoundError: raise FileNotFoundError(f"{path} isn't there: the wheel is made where the whole tree is, by pip 21.3
 or later") from None
 
+<<<<<<< HEAD
 def _released_here(): """Whether this is a machine for which a library is released."""
+=======
+def _read(*parts):
+    path = os.path.join(*parts)
+    try:
+        with open(path, "rb") as file:
+            return file.read()
+    except FileNotFoundError:
+        what = "the wheel is made where the whole tree is, by pip 21.3 or later"
+        raise FileNotFoundError(f"{path} isn't there: {what}") from None
+
+
+def _released_here():
+    """Whether this is a machine for which a library is released."""
+>>>>>>> f223c69039af17023f0e6092a64af44990bf9a11
     system, machine = platform.system(), platform.machine()
     glibc = (system, platform.libc_ver()[0]) == ("Linux", "glibc")
     return glibc and machine in ("x86_64", "aarch64") and sys.maxsize > 2**32

@@ -2,8 +2,8 @@
 //! and back.
 //!
 //! Each function works on bytes in memory and keeps nothing, so any number of threads may call at once; a [`Stream`] takes bytes that
-//! come in pieces. This crate is a wrapper of Gazhdor's library, which is linked in, for x86-64 and aarch64 Linux. What the library's calls
-//! return is proved; the wrapper is tested.
+//! come in pieces. This crate is a wrapper of Gazhdor's library, which is linked in. What the library's calls return is proved for x86-64 and
+//! aarch64 Linux; for other targets the library is compiled, of C that isn't proved. The wrapper is tested.
 //!
 //! ```
 //! # fn main() -> Result<(), Box<dyn std::error::Error>> {

@@ -1,4 +1,8 @@
 //! Records that are skipped, beside the same bytes fed.
+ghost use Rattle.std.specs.Prelude.{List};
+ghost use Rattle.std.specs.Global.{Global};
+ghost use Rattle.fit_record.specs.declared.message.Record.{Record};
+ghost use Rattle.fit_decode.specs.Answers.{MessagesFollow};
 
 use crate::asserts::{equal, equal_at, holds_at};
 use crate::fed::{feed, header, same};
@@ -40,7 +44,11 @@ fn are_alike(rt: &impl Abort, one: &Decoder, other: &Decoder) {
 enum Skip {
     Records,
     Message,
+    Ahead,
 }
+
+/// All of them.
+const SKIPS: [Skip; 3] = [Skip::Records, Skip::Message, Skip::Ahead];
 
 /// Skips data messages one after another: how many bytes they have, and how many they are.
 fn skip_messages(decoder: &mut Decoder, bytes: &[u8]) -> (usize, u64) {
@@ -58,6 +66,29 @@ fn skip_messages(decoder: &mut Decoder, bytes: &[u8]) -> (usize, u64) {
     (bytes.len().saturating_sub(rest.len()), count)
 }
 
+/// Finds data messages one after another: how many bytes they have, and how many they are.
+fn find_messages(decoder: &Decoder, bytes: &[u8]) -> (usize, u64)
+    ensures { (records : List (Record Global))
+        × MessagesFollow Global decoder.now bytes.now result.0 records }
+{
+    let mut ahead = decoder.look_ahead(bytes);
+    let mut count = 0u64;
+    'messages: for _ in 0..bytes.len() {
+        if ahead.next() == 0 {
+            return (ahead.used(), count);
+        }
+        count = count.saturating_add(1);
+    }
+    (ahead.used(), count)
+}
+
+/// Skips at once the data messages that are found: how many bytes they have, and how many they are.
+fn skip_ahead(decoder: &mut Decoder, bytes: &[u8]) -> (usize, u64) {
+    let (used, count) = find_messages(decoder, bytes);
+    decoder.skip_messages(bytes, used);
+    (used, count)
+}
+
 /// Skips what one decoder can, and feeds these bytes to another, which stands at the same place then. Returns how many bytes they are, and
 /// how many records were skipped.
 fn skip_both(
@@ -70,6 +101,7 @@ fn skip_both(
     let (used, count) = match skip {
         Skip::Records => skipping.skip_records(bytes),
         Skip::Message => skip_messages(skipping, bytes),
+        Skip::Ahead => skip_ahead(skipping, bytes),
     };
     let (front, _) = bytes.split_at(used.min(bytes.len()));
     equal(rt, &records_of(rt, feeding, front), &Ok(count));
@@ -169,7 +201,8 @@ fn known_files_cut_anywhere(rt: HostRuntime) {
     }
 }
 
-/// Of data messages alone no more are skipped than of all records, wherever the files are cut.
+/// Of data messages alone no more are skipped than of all records, wherever the files are cut. Those that are found ahead are the same, but
+/// for field descriptions, which two files have.
 #[test]
 fn messages_cut_anywhere(rt: HostRuntime) {
     for known in files() {
@@ -177,6 +210,11 @@ fn messages_cut_anywhere(rt: HostRuntime) {
         for k in 0..known.bytes.len() {
             let skipped = skipped_of(&rt, rt.alloc(), Skip::Message, known.bytes, k);
             holds_at(&rt, skipped <= records, &(known.name, k));
+            let found = skipped_of(&rt, rt.alloc(), Skip::Ahead, known.bytes, k);
+            match known.name {
+                "developer" | "both" => holds_at(&rt, found <= skipped, &(known.name, k)),
+                _ => equal_at(&rt, &found, &skipped, &(known.name, k)),
+            }
         }
     }
 }
@@ -187,7 +225,7 @@ fn change_each(rt: &impl Abort, alloc: Global, bytes: &mut [u8]) {
         let old = bytes[place];
         for bit in [1, 2, 4, 8, 16, 32, 64, 128] {
             bytes[place] = old ^ bit;
-            for skip in [Skip::Records, Skip::Message] {
+            for skip in SKIPS {
                 match give_cut(rt, alloc, skip, bytes, 0) {
                     Ok(_) | Err(Fault::Refused { .. }) => {}
                     Err(fault) => holds_at(rt, false, &(fault, bit, place)),
@@ -219,7 +257,7 @@ fn file_of_many(rt: &impl Abort, alloc: Global) -> Vec<u8> {
 #[test]
 fn many_messages(rt: HostRuntime) {
     let bytes = file_of_many(&rt, rt.alloc());
-    for skip in [Skip::Records, Skip::Message] {
+    for skip in SKIPS {
         for k in [0, 4096] {
             assert!(rt; skipped_of(&rt, rt.alloc(), skip, bytes.as_slice(), k) >= 8990);
         }
