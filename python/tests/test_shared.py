@@ -2,6 +2,8 @@
 mended."""
 import json
 import os
+import subprocess
+import sys
 import unittest
 
 from support import in_tree, text_at
@@ -14,6 +16,10 @@ def cases(name):
 
 
 class Shared(unittest.TestCase):
+    def test_current(self):
+        """The tables are those that tests/cases/make writes."""
+        subprocess.run([sys.executable, in_tree("tests/cases/make"), "--check"], check=True)
+
     def test_nearest(self):
         for case in cases("nearest.json"):
             with self.subTest(case["name"]):
