@@ -41,7 +41,8 @@ from ._profile import UnknownName
 from ._read.columns import columns, frame, lists
 from ._read.events import DefinitionMessage, FileEnd, FileHeader
 from ._read.gpx_parts import gpx
-from ._read.messages import Field, Message, Position
+from ._read.fields import Field
+from ._read.messages import Message, Position
 from ._read.streams import Stream, blocks, messages
 from ._read.streams import found as _found
 from ._read.streams import rows as _rows

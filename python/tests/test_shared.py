@@ -1,6 +1,9 @@
-"""The cases that the tests of several languages read, by tests/cases: nearest names, labels of fields, and what is mended."""
+"""The cases that the tests of several languages read, by tests/cases: nearest names, labels of fields, and what is
+mended."""
 import json
 import os
+import subprocess
+import sys
 import unittest
 
 from support import in_tree, text_at
@@ -13,6 +16,10 @@ def cases(name):
 
 
 class Shared(unittest.TestCase):
+    def test_current(self):
+        """The tables are those that tests/cases/make writes."""
+        subprocess.run([sys.executable, in_tree("tests/cases/make"), "--check"], check=True)
+
     def test_nearest(self):
         for case in cases("nearest.json"):
             with self.subTest(case["name"]):
@@ -39,7 +46,8 @@ class Shared(unittest.TestCase):
 class Names(unittest.TestCase):
     def test_public(self):
         """What `dir` has is what the module promises, and nothing of its own."""
-        self.assertEqual({name for name in dir(gazhdor) if not name.startswith("__")}, {*gazhdor.__all__, "errors"} - {"__version__"})
+        found = {name for name in dir(gazhdor) if not name.startswith("__")}
+        self.assertEqual(found, {*gazhdor.__all__, "errors"} - {"__version__"})
         for name in gazhdor.__all__:
             self.assertTrue(hasattr(gazhdor, name), name)
 

@@ -29,7 +29,8 @@ from .._profile import UnknownName, fields_of
 from .._times import HEADER_TIME, NO_TIME_BYTES, OWN_TIME, Time, when
 from .._write.items import Packer, packers
 from .blocks import Run
-from .values import Definition, Entry, Exact, Key, Number, Raw, Value, degrees, label, read_exact, read_raw
+from .fields import Field
+from .values import Definition, Entry, Key, Number, Value, degrees
 
 _FILE, _PLACE, _TIME = struct.Struct("<I").unpack_from, struct.Struct("<Q").unpack_from, struct.Struct("<I").unpack_from
 
@@ -54,86 +55,6 @@ class Position(NamedTuple):
 
     latitude: float
     longitude: float
-
-
-class Field:
-    """A field of a message.
-
-    name       its name in the profile, or that which the file gives to a developer field; None where there is none
-    number     its number
-    developer  of a developer field its developer data index, else None
-    base       the code of its base type, of a developer field by its description
-    unit       its unit, as 'm/s', or None
-    value      a whole number as an int; a scaled number, in its unit, and float32 and float64 as a float; several
-               numbers as a tuple of these; a text as a str, up to its first zero; bytes as bytes. None stands for a
-               number that is the invalid one of its base type, for an empty text, for bytes of type byte that are all
-               0xFF, and for a field without bytes
-    native     of a developer field the number of the field that it stands for, by its description, else None
-    exact      `value`, but a scaled whole number as a Decimal, with as many decimals as `to_csv` writes
-    raw        what the file has: an int for each number, unscaled and invalid ones too, of a float its bits; all bytes
-               of a text or of bytes
-    """
-
-    __slots__ = ("_block", "_entry")
-
-    def __init__(self, block: bytes, entry: Entry) -> None:
-        self._block, self._entry = block, entry
-
-    @property
-    def name(self) -> Optional[str]:
-        return self._entry.name
-
-    @property
-    def number(self) -> int:
-        return self._entry.number
-
-    @property
-    def developer(self) -> Optional[int]:
-        return self._entry.index
-
-    @property
-    def base(self) -> int:
-        return self._entry.base
-
-    @property
-    def unit(self) -> Optional[str]:
-        return self._entry.unit
-
-    @property
-    def native(self) -> Optional[int]:
-        return self._entry.native
-
-    @property
-    def value(self) -> Value:
-        return self._entry.read(self._block)
-
-    @property
-    def exact(self) -> Exact:
-        return read_exact(self._entry, self.value, self.raw)
-
-    @property
-    def raw(self) -> Raw:
-        return read_raw(self._entry, self._block)
-
-    def _all(self) -> tuple[Any, ...]:
-        of = self._entry
-        shape = of.kind, of.width, of.scale, of.offset, of.invalid
-        return (of.name, of.number, of.index, of.native, of.unit, *shape, self.raw)
-
-    def __eq__(self, other: object) -> bool:
-        if not isinstance(other, Field):
-            return NotImplemented
-        return self._all() == other._all()
-
-    def __hash__(self) -> int:
-        return hash(self._all())
-
-    def __reduce__(self) -> Any:
-        return Field, (self._block, self._entry)
-
-    def __repr__(self) -> str:
-        unit = f" {self.unit}" if self.unit else ""
-        return f"<gazhdor.Field {label(self.name or self._entry.key)}={self.value!r}{unit}>"
 
 
 class Message(Mapping[Key, Any]):
