@@ -47,3 +47,5 @@ const char *gazhdor_version(void)
 {
     return GAZHDOR_VERSION;
 }
+
+#include "beside_blocks.h"

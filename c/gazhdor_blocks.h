@@ -10,7 +10,7 @@
  *
  * Tested, not proved: none of these reads outside the blocks that it is given, which are memory of their length, whatever bytes they
  * have and whatever the other numbers are. What isn't there is NAN, 0, "" or NULL, as each says. Names and texts lie in the blocks, and
- * last as long as they do. What is more than an access to a place stands in the library, in c/gazhdor_blocks.c. */
+ * last as long as they do. What is more than an access to a place stands in the library, in c/beside_blocks.h. */
 #ifndef GAZHDOR_BLOCKS_H
 #define GAZHDOR_BLOCKS_H
 

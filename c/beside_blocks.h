@@ -1,5 +1,5 @@
-/* What reads blocks: the functions that c/gazhdor_blocks.h declares. They are in the library, so that a mistake here is mended without
- * compiling anew what calls them. */
+/* What reads blocks: the functions that gazhdor_blocks.h declares. beside.h includes this, so each library has them, and a mistake here is
+ * mended without compiling anew what calls them. */
 #include "gazhdor.h"
 
 gazhdor_block gazhdor_first(gazhdor_text blocks)
