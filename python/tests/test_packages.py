@@ -59,6 +59,13 @@ def imported(place, program="import gazhdor", **more):
         TMPDIR=WORK))
 
 
+def modules():
+    """The files of the module and of the packages in it, by their names there."""
+    for folder, folders, names in os.walk(MODULE):
+        folders[:] = [name for name in folders if name != "__pycache__"]
+        yield from (os.path.relpath(os.path.join(folder, name), MODULE) for name in names)
+
+
 USE = f"import gazhdor; print(gazhdor.__version__, gazhdor.check({RIDE!r}), gazhdor.__file__)"
 
 
@@ -76,7 +83,7 @@ class Wheel(unittest.TestCase):
         about = f"gazhdor-{VERSION}.dist-info"
         with zipfile.ZipFile(self.wheel) as wheel:
             files = {name: wheel.read(name) for name in wheel.namelist()}
-        wanted = {f"gazhdor/{name}": f"python/gazhdor/{name}" for name in os.listdir(MODULE) if name != "__pycache__"}
+        wanted = {f"gazhdor/{name}": f"python/gazhdor/{name}" for name in modules()}
         wanted.update({"gazhdor/VERSION": "VERSION", "gazhdor/libgazhdor.so": LIBRARY, f"{about}/LICENSE": "LICENSE"})
         for name, path in wanted.items():
             self.assertEqual(files[name], bytes_at(in_tree(path)))
