@@ -53,6 +53,6 @@ mod tests {
             assert!(base_type(message, number).is_some(), "{row:?}");
             count += 1;
         }
-        assert!(count > 100);
+        assert_eq!(count, 114);
     }
 }
