@@ -76,7 +76,11 @@ class Wheel(unittest.TestCase):
         about = f"gazhdor-{VERSION}.dist-info"
         with zipfile.ZipFile(self.wheel) as wheel:
             files = {name: wheel.read(name) for name in wheel.namelist()}
-        wanted = {f"gazhdor/{name}": f"python/gazhdor/{name}" for name in os.listdir(MODULE) if name != "__pycache__"}
+        wanted = {}
+        for folder, folders, names in os.walk(MODULE):
+            folders[:] = [name for name in folders if name != "__pycache__"]
+            below = os.path.relpath(folder, os.path.dirname(MODULE))
+            wanted.update({f"{below}/{name}": f"python/{below}/{name}" for name in names})
         wanted.update({"gazhdor/VERSION": "VERSION", "gazhdor/libgazhdor.so": LIBRARY, f"{about}/LICENSE": "LICENSE"})
         for name, path in wanted.items():
             self.assertEqual(files[name], bytes_at(in_tree(path)))
