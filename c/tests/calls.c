@@ -245,27 +245,6 @@ static void want(void)
     memory.refused = 0;
 }
 
-/* Blocks that are cut before one comes after the first header, and those whose first is no header, are refused without any memory. */
-static void want_none(void)
-{
-    uint8_t *front = (uint8_t *)(uintptr_t)texts[BLOCKS].bytes;
-    uint32_t header = front[0];
-    memory.refused = 1;
-    for (uint32_t end = 0; end < header + 24; end++) {
-        gazhdor_text bytes = GAZHDOR_NO_TEXT;
-        memory.growths = 0;
-        WANT(is(gazhdor_from_messages(front, end, &bytes), GAZHDOR_BLOCK, GAZHDOR_BLOCK_CUT, end < header ? 0 : header, end >= header, 0, 0));
-        WANT(memory.growths == 0 && bytes.length == 0);
-    }
-    front[4] = 2, memory.growths = 0;
-    gazhdor_text bytes = GAZHDOR_NO_TEXT;
-    WANT(is(gazhdor_from_messages(front, texts[BLOCKS].length, &bytes), GAZHDOR_BLOCK, GAZHDOR_BLOCK_KIND, 0, 0, 0, 0) && memory.growths == 0);
-    uint8_t protocol = front[6];
-    front[4] = 1, front[6] = 0x30;
-    WANT(is(gazhdor_from_messages(front, texts[BLOCKS].length, &bytes), GAZHDOR_BLOCK, GAZHDOR_BLOCK_HEADER, 0, 0, 0, 0) && memory.growths == 0);
-    front[6] = protocol, memory.refused = 0;
-}
-
 static void *in_thread(void *given)
 {
     for (long i = 0; i < *(long *)given; i++) {
@@ -311,7 +290,6 @@ int main(int argc, char **argv)
         WANT(length > 20000);
     }
     want();
-    want_none();
     for (int i = 0; i < CALLS; i++)
         gazhdor_free(texts[i]);
     free(ride);

@@ -1,7 +1,7 @@
 /* Tests how much memory gazhdor_from_messages takes at its most, and of which blocks it takes none: peak FILE.. Of the blocks of each FILE it
  * holds at most three times the bytes of the file, as a list that grows has the old one and the new one at once, and 64 KB more. Of no blocks,
- * and of such as are cut or don't begin with a header, it takes none at all: with all memory refused it says which block is wrong. Bytes are
- * counted, and all memory is refused at times: link with --wrap=malloc, realloc and free. */
+ * and of such as don't begin with a header that can stand and a block after it, it takes none at all: with all memory refused it says which
+ * block is wrong. Bytes are counted, and all memory is refused at times: link with --wrap=malloc, realloc and free. */
 #define COUNTED
 #include "want.h"
 
@@ -21,13 +21,13 @@ static void back(const char *name, const uint8_t *bytes, size_t length)
 }
 
 /* The answer of some blocks while all memory is refused. */
-static void refuses(const char *what, const uint8_t *blocks, size_t length, uint32_t reason)
+static void refuses(const char *what, const uint8_t *blocks, size_t length, uint32_t reason, uint64_t row, uint64_t place)
 {
     gazhdor_text made = GAZHDOR_NO_TEXT;
     memory.refuses = 1;
     gazhdor_answer answer = gazhdor_from_messages(blocks, length, &made);
     memory.refuses = 0;
-    WANT_OF(answer.status == GAZHDOR_BLOCK && answer.reason == reason && answer.row == 0 && answer.place == 0, "%s: status %u, reason %u\n", what,
+    WANT_OF(answer.status == GAZHDOR_BLOCK && answer.reason == reason && answer.row == row && answer.place == place, "%s: status %u, reason %u\n", what,
         answer.status, answer.reason);
     WANT_OF(made.length == 0, "%s\n", what);
 }
@@ -38,10 +38,15 @@ static void takes_none(const uint8_t *bytes, size_t length)
     WANT_OF(gazhdor_messages(bytes, length, &blocks).status == GAZHDOR_GOOD, "the first file\n");
     uint32_t first;
     memcpy(&first, blocks.bytes, sizeof first);
-    refuses("no blocks", blocks.bytes, 0, GAZHDOR_BLOCK_CUT);
+    refuses("no blocks", blocks.bytes, 0, GAZHDOR_BLOCK_CUT, 0, 0);
     for (uint32_t cut = 1; cut < first; cut++)
-        refuses("a header that is cut", blocks.bytes, cut, GAZHDOR_BLOCK_CUT);
-    refuses("blocks without a header", blocks.bytes + first, blocks.length - first, GAZHDOR_BLOCK_KIND);
+        refuses("a header that is cut", blocks.bytes, cut, GAZHDOR_BLOCK_CUT, 0, 0);
+    for (uint32_t more = 0; more < 24; more++)
+        refuses("a header without a block after it", blocks.bytes, first + more, GAZHDOR_BLOCK_CUT, 1, first);
+    refuses("blocks without a header", blocks.bytes + first, blocks.length - first, GAZHDOR_BLOCK_KIND, 0, 0);
+    uint8_t *header = (uint8_t *)(uintptr_t)blocks.bytes;
+    header[6] = 0x30;
+    refuses("a header of protocol 3", header, blocks.length, GAZHDOR_BLOCK_HEADER, 0, 0);
     gazhdor_free(blocks);
 }
 

@@ -22,7 +22,7 @@ fn texts_in(alloc: Global, message: &MessageBytes<'_>) -> Result<Texts, AllocErr
 {
     let name = text_in(alloc, message, 3)?;
     let unit = text_in(alloc, message, 8)?;
-    Ok(Texts { name, unit })
+    Texts::of(alloc, name, unit)
 }
 
 /// What the data message describes that these bytes are: a base type code, and the developer field with its name and its unit.

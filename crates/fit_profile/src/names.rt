@@ -12,15 +12,16 @@ use fit_record::{DevDef, DevKey, MessageDef, Values};
 use std::alloc::{AllocError, Allocator, Global};
 use std::collections::BTreeMap;
 use std::marker::Model;
+use std::sync::Arc;
 
-/// The name and the unit of a developer field. A contract sees them as lists of bytes.
+/// A name and a unit. A contract sees them as lists of bytes.
 #[derive(Drop)]
-pub(crate) struct Texts<A: Allocator = Global> {
-    pub name: Option<String<A>>,
-    pub unit: Option<String<A>>,
+struct OwnTexts<A: Allocator> {
+    name: Option<String<A>>,
+    unit: Option<String<A>>,
 }
 
-impl<A: Allocator> Model for Texts<A> {
+impl<A: Allocator> Model for OwnTexts<A> {
     ghost use Rattle.std.specs.Prelude.{option_map};
     ghost use Rattle.std.specs.String.{string_bytes};
     ghost use Rattle.fit_profile.specs.Described.{Naming};
@@ -29,6 +30,24 @@ impl<A: Allocator> Model for Texts<A> {
 
     ghost view = { λ t.
         record { name = option_map string_bytes t.name; unit = option_map string_bytes t.unit } };
+}
+
+/// The name and the unit of a developer field. Its description and all definitions with such a field have them together, so a definition
+/// takes no memory for them. A contract sees them as lists of bytes.
+#[derive(Drop)]
+pub(crate) struct Texts<A: Allocator = Global> {
+    /// None where there is neither.
+    shared: Option<Arc<OwnTexts<A>, A>>,
+}
+
+impl<A: Allocator> Model for Texts<A> {
+    ghost use Rattle.std.specs.Prelude.{option_map, unwrap_or};
+    ghost use Rattle.std.specs.Arc.{arc_value};
+    ghost use Rattle.fit_profile.specs.Described.{Naming, nameless};
+
+    ghost Value = { Naming };
+
+    ghost view = { λ t. unwrap_or (option_map arc_value t.shared) nameless };
 }
 
 /// The names and units of the descriptions so far, and of the developer fields of each local message
@@ -47,32 +66,30 @@ pub(crate) struct Described<A: Allocator> {
     pub texts: Texts<A>,
 }
 
-/// The same text, in memory of its own.
-fn copy_of<A: Allocator>(
-    alloc: A,
-    text: &Option<String<A>>,
-) -> Result<Option<String<A>>, AllocError>
-    ensures { IfOk result (λ copy.
-        option_map string_bytes copy ≡ option_map string_bytes text.now) }
-{
-    match text {
-        None => Ok(None),
-        Some(text) => {
-            let copy = String::from_str(alloc, text.as_str())?;
-            Ok(Some(copy))
-        }
-    }
-}
-
 impl<A: Allocator> Texts<A> {
     /// Neither a name nor a unit.
     fn none() -> Self
         ensures { result ≡ nameless }
     {
-        Texts {
-            name: None,
-            unit: None,
+        Texts { shared: None }
+    }
+
+    /// This name and this unit.
+    pub(crate) fn of(
+        alloc: A,
+        name: Option<String<A>>,
+        unit: Option<String<A>>,
+    ) -> Result<Self, AllocError>
+        ensures { IfOk result (λ texts. texts ≡ record {
+          name = option_map string_bytes name;
+          unit = option_map string_bytes unit;
+        }) }
+    {
+        if name.is_none() && unit.is_none() {
+            return Ok(Texts::none());
         }
+        let own = Arc::new(alloc, OwnTexts { name, unit })?;
+        Ok(Texts { shared: Some(own) })
     }
 }
 
@@ -91,25 +108,35 @@ impl<A: Allocator> Texts<A> {
     pub fn name(&self) -> Option<&str>
         ensures { option_map (λ s. s.now) result ≡ self.now.name }
     {
-        lent(&self.name)
+        match &self.shared {
+            Some(own) => lent(&own.name),
+            None => None,
+        }
     }
 
     /// The unit, where there is one.
     pub fn unit(&self) -> Option<&str>
         ensures { option_map (λ s. s.now) result ≡ self.now.unit }
     {
-        lent(&self.unit)
+        match &self.shared {
+            Some(own) => lent(&own.unit),
+            None => None,
+        }
     }
 }
 
-impl<A: Allocator + Copy> Texts<A> {
-    /// The same texts, in memory of their own.
-    fn copy(&self, alloc: A) -> Result<Self, AllocError>
-        ensures { IfOk result (λ copy. copy ≡ self.now) }
+impl<A: Allocator> Texts<A> {
+    /// The same texts, had together.
+    fn share(&self) -> Result<Self, AllocError>
+        ensures { IfOk result (λ texts. texts ≡ self.now) }
     {
-        let name = copy_of(alloc, &self.name)?;
-        let unit = copy_of(alloc, &self.unit)?;
-        Ok(Texts { name, unit })
+        match &self.shared {
+            Some(own) => {
+                let own = Arc::try_clone(own)?;
+                Ok(Texts { shared: Some(own) })
+            }
+            None => Ok(Texts::none()),
+        }
     }
 }
 
@@ -123,7 +150,7 @@ pub(crate) fn texts_of<A: Allocator + Copy>(
 {
     let name = text_field(alloc, definition, values, 3)?;
     let unit = text_field(alloc, definition, values, 8)?;
-    Ok(Texts { name, unit })
+    Texts::of(alloc, name, unit)
 }
 
 /// Sixteen local message types without developer fields.
@@ -204,7 +231,7 @@ impl<A: Allocator + Copy> Names<A> {
             number: field.number,
         };
         match self.described.get(&key) {
-            Some(texts) => texts.copy(self.alloc),
+            Some(texts) => texts.share(),
             None => Ok(Texts::none()),
         }
     }

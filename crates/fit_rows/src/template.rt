@@ -179,6 +179,15 @@ fn frames_and_end(
     Ok((frames, end))
 }
 
+/// About how many bytes of memory frames take.
+fn memory_of(frames: &[Frame]) -> usize {
+    let mut memory: usize = 0;
+    for frame in frames {
+        memory = memory.saturating_add(frame.memory());
+    }
+    memory
+}
+
 /// The rows of the messages of a definition without their values.
 #[derive(Drop)]
 pub struct Template {
@@ -192,6 +201,8 @@ pub struct Template {
     frames: Vec<Frame>,
     /// The end of the last row.
     end: Stamp,
+    /// About how many bytes of memory it takes.
+    memory: usize,
 }
 
 impl Model for Template {
@@ -235,6 +246,10 @@ impl Template {
         let fields = definition.fields.as_slice();
         let devs = kept.devs.as_slice();
         let (frames, end) = frames_and_end(pen, global, fields, devs)?;
+        let memory = kept
+            .memory()
+            .saturating_add(memory_of(frames.as_slice()))
+            .saturating_add(end.memory());
         Ok(Template {
             kept,
             line,
@@ -242,6 +257,7 @@ impl Template {
             label,
             frames,
             end,
+            memory,
         })
     }
 
@@ -252,6 +268,11 @@ impl Template {
         ensures { IsTrue result → self.now ≡ message_key stream.now local defined.now }
     {
         self.kept.is(stream, local, defined)
+    }
+
+    /// About how many bytes of memory it takes.
+    pub(crate) fn memory(&self) -> usize {
+        self.memory
     }
 
     /// How many rows each message has.

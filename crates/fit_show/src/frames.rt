@@ -14,6 +14,7 @@ use fit_texts::words::unit_text;
 use fit_texts::{KeptDev, Sheet, Stamp, WIDE};
 use std::alloc::{AllocError, Global};
 use std::marker::Model;
+use std::mem;
 
 /// Puts a unit after a space, where there is one.
 fn put_spaced(text: &mut Vec<u8>, unit: &[u8]) -> Result<(), AllocError>
@@ -115,6 +116,12 @@ impl ShownField {
             unit: Stamp::new(full)?,
             cell: ShownCell::new(code, size, info),
         })
+    }
+
+    /// About how many bytes of memory it takes.
+    pub(crate) fn memory(&self) -> usize {
+        let texts = self.head.memory().saturating_add(self.unit.memory());
+        texts.saturating_add(mem::size_of::<ShownField>())
     }
 
     /// What stands between its cell and the next one.

@@ -102,6 +102,15 @@ fn head_and_fields(
     Ok((head, shown))
 }
 
+/// About how many bytes of memory fields take.
+fn memory_of(fields: &[ShownField]) -> usize {
+    let mut memory: usize = 0;
+    for field in fields {
+        memory = memory.saturating_add(field.memory());
+    }
+    memory
+}
+
 /// The lines of the messages of a definition without their values.
 #[derive(Drop)]
 pub struct LineTemplate {
@@ -114,6 +123,8 @@ pub struct LineTemplate {
     head: Stamp,
     /// The fields and the developer fields.
     fields: Vec<ShownField>,
+    /// About how many bytes of memory it takes.
+    memory: usize,
 }
 
 impl Model for LineTemplate {
@@ -148,12 +159,17 @@ impl LineTemplate {
         let fields = definition.fields.as_slice();
         let (head, fields) = head_and_fields(alloc, definition.global, fields, devs)?;
         let (front, timed) = fronts(alloc, local, definition.global)?;
+        let memory = kept
+            .memory()
+            .saturating_add(memory_of(fields.as_slice()))
+            .saturating_add(head.memory());
         Ok(LineTemplate {
             kept,
             front,
             timed,
             head,
             fields,
+            memory,
         })
     }
 
@@ -220,6 +236,10 @@ impl Finding for LineTemplate {
         }
         *found = Some(LineTemplate::new(*tools, stream, local, defined)?);
         Ok(())
+    }
+
+    fn memory(&self) -> usize {
+        self.memory
     }
 }
 

@@ -19,6 +19,7 @@ use fit_record::read_items;
 use fit_texts::{Sheet, Stamp, WIDE, add_text, put_sheet};
 use std::alloc::AllocError;
 use std::marker::Model;
+use std::mem;
 
 /// Puts two cells after a text, each with a comma after it.
 #[tactic(auto, using(crate::proofs::TwoCells::two_put))]
@@ -121,6 +122,13 @@ impl Frame {
             between: Stamp::new(between)?,
             form: FieldForm::new(code, size, info),
         })
+    }
+
+    /// About how many bytes of memory it takes.
+    pub fn memory(&self) -> usize {
+        self.between
+            .memory()
+            .saturating_add(mem::size_of::<Frame>())
     }
 
     /// How many bytes the field has.

@@ -350,4 +350,8 @@ impl Finding for Columns {
         }
         columns.renew(fields)
     }
+
+    fn memory(&self) -> usize {
+        self.fields.capacity().saturating_mul(3)
+    }
 }

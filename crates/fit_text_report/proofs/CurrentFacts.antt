@@ -9,7 +9,7 @@ use Rattle.fit_record.specs.Environment.{Environment, defined_by, describe}
 use Rattle.fit_record.specs.declared.definition.MessageDef.{MessageDef}
 use Rattle.fit_record.specs.declared.learn.Description.{Description}
 use Rattle.fit_record.specs.declared.message.Record.TheVariants.{Define}
-use Rattle.fit_text_report.specs.Current.{KeepsOthers, NoneAreCurrent}
+use Rattle.fit_text_report.specs.Current.{NoneAreCurrent}
 use Rattle.fit_text_report.specs.declared.found.Findings.{Findings}
 
 -- what is set at one place stands there alone
@@ -80,3 +80,8 @@ after_definition {T} found_of old new before d are items flags = λ k p is. elim
       λ flag. ap (λ xs. slice_get xs k) items ∙ are k p was (flag_before old.current new.current d.local k false flags differs flag)
       ∙ ap (λ ns. Some (Some (found_of k p ns))) names
 ]
+
+-- what is known before others are let go is that of the definitions that count, and so what is known after it is
+pub current_after : {T : Type 0} (found_of : FoundOf T) (old new : Findings T) (before : List (Record Global)) → AreCurrent found_of old before
+    → ((k : ℕ) (t : T) → IsCurrent old k t → IsCurrent new k t) → AreCurrent found_of new before
+current_after found_of old new before are kept = λ k p is. kept k (found_of k p (namings_at before k)) (are k p is)

@@ -1,12 +1,12 @@
 //! What is found out of the definitions of a file, once for many messages.
-ghost use Rattle.std.specs.Prelude.{◌≡◌, ◌≤◌, ◌↔◌, ℕ, List, IsTrue, OnOk, Some, length, option_and_then, option_map, set, slice_get, false, true};
+ghost use Rattle.std.specs.Prelude.{◌≡◌, ◌≤◌, ◌↔◌, ℕ, List, IsTrue, None, OnOk, Some, length, option_and_then, option_map, set, slice_get, false, true};
 ghost use Rattle.std.specs.Global.{Global};
 ghost use Rattle.fit_record.specs.Environment.{defined_at};
 ghost use Rattle.fit_record.specs.Sound.{IsSound};
 ghost use Rattle.fit_record.specs.declared.environment.Defined.{Defined};
 ghost use Rattle.fit_profile.specs.Described.{Naming, namings_at};
 ghost use Rattle.fit_profile.specs.Looks.{known};
-ghost use Rattle.fit_text_report.specs.Current.{AreCurrent, KeepsOthers, NoneAreCurrent};
+ghost use Rattle.fit_text_report.specs.Current.{AreCurrent, IsCurrent, KeepsOthers, NoneAreCurrent};
 
 use fit_profile::Stream;
 use fit_record::Defined;
@@ -33,14 +33,23 @@ pub trait Finding: Drop {
         requires sound { IsSound defined.now }
         ensures { OnOk result (found.new
             ≡ Some (found_of local defined.now (namings_at stream.now local))) };
+
+    /// About how many bytes of memory it takes.
+    fn memory(&self) -> usize;
 }
 
-/// What was found out of the definitions of a file, each at the place of its local message type.
+/// How much memory what is found out of a definition takes at most, where it is kept beside that of others.
+const SHORT: usize = 65_536;
+
+/// What was found out of the definitions of a file, each at the place of its local message type. Of what takes much memory the last is
+/// kept alone: a definition of some 1,500 bytes may make half a megabyte.
 #[derive(Drop)]
 pub struct Findings<T: Drop> {
     pub items: Vec<Option<T>>,
     /// Whether what was found is known to be that of the definition that counts now, for each local message type.
     pub current: [bool; 16],
+    /// The local message type for which what was found takes much memory, where there is one.
+    long: Option<u8>,
 }
 
 impl<T: Finding> Findings<T> {
@@ -51,6 +60,7 @@ impl<T: Finding> Findings<T> {
         Findings {
             items: Vec::new(alloc),
             current: [false; 16],
+            long: None,
         }
     }
 
@@ -89,9 +99,49 @@ impl<T: Finding> Findings<T> {
         }
     }
 
-    /// Finds out what is to be found for the definition of this local message type after the records of a stream.
+    /// Lets go what was found for a local message type.
+    #[cold]
     #[inline(never)]
-    fn find_anew(
+    fn let_go(&mut self, local: u8)
+        ensures items { self.new.items.items ≡ set self.old.items.items local None }
+        ensures current { self.new.current ≡ set self.old.current local false }
+    {
+        self.forget_one(local);
+        let place = local as usize;
+        if place < self.items.len() {
+            self.items[place] = None;
+        }
+    }
+
+    /// Whether what was found for a local message type takes much memory.
+    #[inline(always)]
+    fn is_long(&self, local: u8) -> bool {
+        let Some(found) = self.get(local) else {
+            return false;
+        };
+        found.memory() > SHORT
+    }
+
+    /// Where what was found for a local message type takes much memory, lets go that of another which does.
+    fn keep_one_long(&mut self, local: u8)
+        ensures here { slice_get self.new.items.items local ≡ slice_get self.old.items.items local }
+        ensures others { (other : ℕ) (found : T) → IsCurrent self.old other found
+            → IsCurrent self.new other found }
+    {
+        if !self.is_long(local) {
+            return;
+        }
+        if let Some(other) = self.long {
+            if other != local {
+                self.let_go(other);
+            }
+        }
+        self.long = Some(local);
+    }
+
+    /// Finds out what is to be found for the definition of this local message type after the records of a stream.
+    #[inline(always)]
+    fn find_in_place(
         &mut self,
         tools: &mut T::Tools,
         stream: &Stream,
@@ -115,6 +165,28 @@ impl<T: Finding> Findings<T> {
             defined,
         )?;
         note(&mut self.current, local, true);
+        Ok(())
+    }
+
+    /// Finds out what is to be found for the definition of this local message type after the records of a stream. Of what takes much memory
+    /// it is kept alone.
+    #[inline(never)]
+    fn find_anew(
+        &mut self,
+        tools: &mut T::Tools,
+        stream: &Stream,
+        local: u8,
+        defined: &Defined,
+    ) -> Result<(), AllocError>
+        requires place { defined_at (known stream.now) local ≡ Some defined.now }
+        requires sound { IsSound defined.now }
+        requires current { AreCurrent T.found_of self.old stream.now }
+        ensures found { OnOk result (slice_get self.new.items.items local
+            ≡ Some (Some (T.found_of local defined.now (namings_at stream.now local)))) }
+        ensures current { AreCurrent T.found_of self.new stream.now }
+    {
+        self.find_in_place(tools, stream, local, defined)?;
+        self.keep_one_long(local);
         Ok(())
     }
 

@@ -99,6 +99,11 @@ impl Stamp {
         self.used
     }
 
+    /// How many bytes of memory its text takes.
+    pub fn memory(&self) -> usize {
+        self.padded.capacity()
+    }
+
     /// What comes after it in a text that begins with it.
     pub fn after<'a>(&self, text: &'a [u8]) -> Option<&'a [u8]>
         ensures some { IfSome result (λ left. text.now ≡ self.now ++ left.now) }

@@ -45,4 +45,8 @@ impl Finding for Template {
         *found = Some(template);
         Ok(())
     }
+
+    fn memory(&self) -> usize {
+        self.memory()
+    }
 }

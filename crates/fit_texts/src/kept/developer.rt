@@ -8,6 +8,7 @@ use fit_profile::Stream;
 use fit_record::DevDef;
 use std::alloc::{AllocError, Global};
 use std::marker::Model;
+use std::mem;
 
 /// A developer field, as far as the text around its values depends on it.
 #[derive(Drop)]
@@ -51,6 +52,12 @@ impl KeptDev {
             code,
             size,
         })
+    }
+
+    /// About how many bytes of memory it takes.
+    pub(crate) fn memory(&self) -> usize {
+        let texts = self.name.capacity().saturating_add(self.unit.capacity());
+        texts.saturating_add(mem::size_of::<KeptDev>())
     }
 
     /// Whether it has this name, unit, code and size.

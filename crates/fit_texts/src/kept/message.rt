@@ -62,6 +62,15 @@ impl KeptMessage {
         self.own.is(local, definition) && are_devs(self.devs.as_slice(), stream, local, dev, codes)
     }
 
+    /// About how many bytes of memory it takes.
+    pub fn memory(&self) -> usize {
+        let mut memory = self.own.fields.capacity().saturating_mul(3);
+        for dev in self.devs.as_slice() {
+            memory = memory.saturating_add(dev.memory());
+        }
+        memory
+    }
+
     /// The local message type.
     pub fn local(&self) -> u8
         ensures { result ≡ self.now.own.local }
