@@ -5,6 +5,7 @@
 void *memcpy(void *to, const void *from, size_t bytes);
 void *memmove(void *to, const void *from, size_t bytes);
 void *memset(void *to, int value, size_t bytes);
+void *memchr(const void *bytes, int value, size_t length);
 int memcmp(const void *first, const void *second, size_t bytes);
 size_t strlen(const char *text);
 int strcmp(const char *first, const char *second);
