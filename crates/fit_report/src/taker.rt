@@ -126,13 +126,13 @@ pub fn take_messages<T: MessageTaker>(
     ensures wants { OnErr result (MayLackMemoryIn Global IsAny decoder.old.bytes piece.now) }
     ensures viable { IsViable Global chain_limit decoder.new.bytes }
 {
-    let used = take_ahead(taker, decoder, piece, text)?;
-    if used > 0 {
-        decoder.skip_messages(piece, used);
-        return Ok(used);
-    }
     if !begins_message(piece) {
         return Ok(0);
     }
-    take_description(taker, decoder, piece, text)
+    let used = take_ahead(taker, decoder, piece, text)?;
+    if used == 0 {
+        return take_description(taker, decoder, piece, text);
+    }
+    decoder.skip_messages(piece, used);
+    Ok(used)
 }

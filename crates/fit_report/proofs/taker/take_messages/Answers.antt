@@ -1,4 +1,4 @@
-use Rattle.fit_report.proofs.Common.{◌≡◌, append-nil, arith, err_from_is_err_and, subst, sym}
+use Rattle.fit_report.proofs.Common.{append-nil, arith, err_from_is_err_and, subst, sym}
 use Rattle.std.proofs.lemmas.Result.{IfOk-weaker}
 use Rattle.fit_report.proofs.TakenMessages.{skips_taken, skips_then}
 use Rattle.fit_report.proofs.taker.take_messages.Goals as goal
@@ -6,14 +6,12 @@ use Rattle.fit_report.proofs.taker.take_messages.Goals as goal
 pub take_description-requires : goal.take_description-requires
 take_description-requires g c =
     let (heard, here, are) = c.requires.told in
-    let none : c.in_ok-used.used ≡ 0 = omega (arith, c.if-used-gt0.false) in
-    (heard, subst (λ r. g.T.MessageTaker.has_heard r heard) (sym (c.in_ok-used.ensures.takes.none none).0) here, are)
+    (heard, subst (λ r. g.T.MessageTaker.has_heard r heard) (sym (c.in_ok-used.ensures.takes.none c.if-used-eq0.true).0) here, are)
 
-pub returns-clause-skips : goal.returns-clause-skips
-returns-clause-skips g c =
-    let none : c.in_ok-used.used ≡ 0 = omega (arith, c.if-used-gt0.false) in
+pub returns-then-used-eq0-clause-skips : goal.returns-then-used-eq0-clause-skips
+returns-then-used-eq0-clause-skips g c =
     IfOk-weaker c.take_description.result _ _ (λ n skips. skips_then g.T.MessageTaker.has_heard g.T.MessageTaker.line c.args.decoder.now c.args.piece.now
-    c.in_ok-used.ensures.takes c.take_description.new.decoder c.take_description.new.taker c.take_description.new.text.items n none skips)
+    c.in_ok-used.ensures.takes c.take_description.new.decoder c.take_description.new.taker c.take_description.new.text.items n c.if-used-eq0.true skips)
     c.take_description.ensures.skips
 
 pub returns-in_err-used-clause-memory : goal.returns-in_err-used-clause-memory
@@ -24,7 +22,7 @@ returns-in_err-used-clause-memory g c =
 pub skip_messages-requires : goal.skip_messages-requires
 skip_messages-requires g c = (omega arith, (c.in_ok-used.ensures.takes.records, c.in_ok-used.ensures.takes.follow))
 
-pub returns-then-used-gt0-clause-skips : goal.returns-then-used-gt0-clause-skips
-returns-then-used-gt0-clause-skips g c =
+pub returns-clause-skips : goal.returns-clause-skips
+returns-clause-skips g c =
     skips_taken g.T.MessageTaker.has_heard g.T.MessageTaker.line c.args.decoder.now c.args.piece.now c.in_ok-used.ensures.takes c.skip_messages.new.self
-    (omega (arith, c.if-used-gt0.true)) c.skip_messages.ensures.used c.skip_messages.ensures.events
+    (omega (arith, c.if-used-eq0.false)) c.skip_messages.ensures.used c.skip_messages.ensures.events
