@@ -21,17 +21,21 @@ skips_nothing {line = line} {old = old} {text = text} = record {
   told = λ heard has are. (heard, has, are, [], sym (append-nil text), sym (append-nil (text_of line heard)));
 }
 
+pub fed_further : (old mid new : Seen) (piece rest : List ℕ) (at used : ℕ) → mid ≡ record old { bytes = old.bytes ++ take at piece } → rest ≡ drop at piece
+    → new ≡ record mid { bytes = mid.bytes ++ take used rest } → new ≡ record old { bytes = old.bytes ++ take (at + used) piece }
+fed_further old mid new piece rest at used before left more =
+    more ∙ ap (λ (v : Seen). record v { bytes = v.bytes ++ take used rest }) before
+    ∙ ap (λ (b : List ℕ). record old { bytes = b })
+    (append_assoc old.bytes (take at piece) (take used rest)
+    ∙ ap (λ (x : List ℕ). old.bytes ++ x) (ap (λ (x : List ℕ). take at piece ++ take used x) left ∙ sym (take-add at used piece)))
+
 -- Skipped once, and once more in what is left of the piece.
 pub skips_on : {A R : Type 0} {has_heard : R → List (Event A) → Type 0} {line : Lines A} {old mid new : Seen} {piece rest : List ℕ} {at used : ℕ}
     {before between after : R} {first second third : List ℕ} → Skips has_heard line old mid piece before between first second at → rest ≡ drop at piece
     → Skips has_heard line mid new rest between after second third used → Skips has_heard line old new piece before after first third (at + used)
-skips_on {line = line} {old = old} {piece = piece} {rest = rest} {at = at} {used = used} {first = first} p left q = record {
+skips_on {line = line} {old = old} {mid = mid} {new = new} {piece = piece} {rest = rest} {at = at} {used = used} {first = first} p left q = record {
   within = omega (arith, p.within, q.within, ap length left, length-drop at piece);
-  is_fed =
-      q.is_fed ∙ ap (λ (v : Seen). record v { bytes = v.bytes ++ take used rest }) p.is_fed
-      ∙ ap (λ (b : List ℕ). record old { bytes = b })
-      (append_assoc old.bytes (take at piece) (take used rest)
-      ∙ ap (λ (x : List ℕ). old.bytes ++ x) (ap (λ (x : List ℕ). take at piece ++ take used x) left ∙ sym (take-add at used piece)));
+  is_fed = fed_further old mid new piece rest at used p.is_fed left q.is_fed;
   refused = λ reason is.
       let a = p.refused reason is in
       let b = q.refused reason (ap (λ (v : Seen). v.refusal) a.1 ∙ is) in

@@ -78,17 +78,18 @@ fn begins_message(piece: &[u8]) -> bool {
     }
 }
 
-/// Takes in a data message at the front of a piece that describes something, and feeds it. Returns how many bytes it has, or 0 where there is none.
-#[cold]
+/// Skips data messages at the front of a piece one by one, again and again until none is skipped or the text is full: also those that
+/// describe something. Returns how many bytes they have.
 #[inline(never)]
-fn take_description<T: MessageTaker>(
+fn take_each<T: MessageTaker>(
     taker: &mut T,
     decoder: &mut Decoder,
     piece: &[u8],
     text: &mut Vec<u8>,
 ) -> Result<usize, AllocError>
-    requires { (heard : List (Told Global)) × T.has_heard taker.old heard
+    requires told { (heard : List (Told Global)) × T.has_heard taker.old heard
         × AreEvents decoder.old.bytes (reverse heard) }
+    requires viable { IsViable Global chain_limit decoder.old.bytes }
     ensures skips { IfOk result (λ used. Skips T.has_heard T.line decoder.old decoder.new piece.now
         taker.old taker.new text.old.items text.new.items used) }
     ensures memory { OnErr result ((k : ℕ) × (k ≤ length piece.now)
@@ -97,12 +98,19 @@ fn take_description<T: MessageTaker>(
     ensures wants { OnErr result (MayLackMemoryIn Global IsAny decoder.old.bytes piece.now) }
     ensures viable { IsViable Global chain_limit decoder.new.bytes }
 {
-    let size = decoder.skip_message(piece);
-    if size == 0 {
-        return Ok(0);
+    let mut at = 0;
+    'messages: loop {
+        let (_, rest) = piece.split_at(at);
+        let size = decoder.skip_message(rest);
+        if size == 0 {
+            return Ok(at);
+        }
+        taker.take(rest, size, text)?;
+        at += size;
+        if text.len() >= FULL_TEXT {
+            return Ok(at);
+        }
     }
-    taker.take(piece, size, text)?;
-    Ok(size)
 }
 
 /// Skips data messages at the front of a piece, again and again until none is skipped or the text is full, and puts their texts after the
@@ -131,7 +139,7 @@ pub fn take_messages<T: MessageTaker>(
     }
     let used = take_ahead(taker, decoder, piece, text)?;
     if used == 0 {
-        return take_description(taker, decoder, piece, text);
+        return take_each(taker, decoder, piece, text);
     }
     decoder.skip_messages(piece, used);
     Ok(used)
