@@ -1,9 +1,10 @@
 -- What each kind of stream makes of the bytes that are fed to it.
-use Rattle.std.specs.Prelude.{ℕ, List, [], codes}
+use Rattle.std.specs.Prelude.{ℕ, List, [], ◌∷◌, codes}
 use Rattle.std.specs.declared.alloc.Global.{Global}
 use Rattle.fit_report.specs.Heard.{Lines}
+use Rattle.fit_cells.specs.Rows.{csv_text}
 use Rattle.fit_table.specs.EventTexts.{table_text}
-use Rattle.fit_table.specs.declared.rows.TheConstants.{TABLE_LINE}
+use Rattle.fit_table.specs.Table.{table_line}
 use Rattle.fit_rows.specs.EventTexts.{csv_line}
 use Rattle.fit_show.specs.ShowLines.{show_line}
 use Rattle.fit_messages.specs.Blocks.{event_block}
@@ -24,7 +25,7 @@ line_for kinds.Messages = event_block
 abbrev pub first_for : Kind → List ℕ
 first_for kinds.Check = []
 first_for kinds.Show = []
-first_for kinds.Table = TABLE_LINE.now
+first_for kinds.Table = csv_text (table_line ∷ [])
 first_for kinds.Rows = codes "row,a,b,c,d,e,f\n"
 first_for kinds.Messages = []
 
