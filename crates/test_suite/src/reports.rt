@@ -39,6 +39,8 @@ impl Report for Dots {
 const CLOSING: &[u8] = &[b'!'; 65_536];
 
 impl Document for Dots {
+    ghost use Rattle.test_suite.specs.declared.reports.TheConstants.{CLOSING};
+
     ghost ending = { λ heard. CLOSING.now };
 
     fn end(&mut self, text: &mut Vec<u8>) -> Result<(), AllocError> {
