@@ -21,6 +21,9 @@ follow_refused : {A : Type 0} (seen : Seen) (piece : List ℕ) (used : ℕ) (rec
 follow_refused seen piece used records reason is (inl none) = none.0
 follow_refused seen piece used records reason is (inr (fresh, fs, h, n, before, come, within, learns, left)) = absurd cc
 
+pub rest_at : (rest piece : List ℕ) (n m : ℕ) → rest ≡ drop n piece → n ≡ m → rest ≡ drop m piece
+rest_at rest piece n m left is = left ∙ ap (λ k. drop k piece) is
+
 -- what is looked at ahead goes on in the same piece
 pub ahead_on : (a b : LookedAhead) (seen : Seen) (piece : List ℕ) (n : ℕ) → a ≡ record { fed = seen; piece = piece; used = a.used }
     → b ≡ record a { used = n } → b ≡ record { fed = seen; piece = piece; used = b.used }

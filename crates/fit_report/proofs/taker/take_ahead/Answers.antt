@@ -1,7 +1,7 @@
-use Rattle.fit_report.proofs.Common.{◌≡◌, ◌<◌, ◌∙◌, ℕ, ap, arith, drop, subst, sym}
+use Rattle.fit_report.proofs.Common.{◌<◌, ◌∙◌, ℕ, ap, arith, subst, sym}
 use Rattle.fit_decode.specs.Answers.{LookedAhead}
 use Rattle.fit_report.specs.inner.Taking.{TakesAhead}
-use Rattle.fit_report.proofs.TakenMessages.{ahead_on, may_take, next_ends, next_here, next_within, takes_more, takes_nothing}
+use Rattle.fit_report.proofs.TakenMessages.{ahead_on, may_take, next_ends, next_here, next_within, rest_at, takes_more, takes_nothing}
 use Rattle.fit_report.proofs.taker.take_ahead.Goals as goal
 
 pub messages-init : goal.messages-init
@@ -20,8 +20,7 @@ pub take-requires-clause-within : goal.take-requires-clause-within
 take-requires-clause-within g c =
     let some : 0 < c.next-size.result = omega (arith, c.if-size-eq0.false) in
     let next = next_here c.messages.ahead c.args.decoder.now c.args.piece.now c.next-size.result c.messages.invariant.is (c.next-size.ensures.message some) in
-    let left : c.split_at.result.1.now ≡ drop c.messages.ahead.used c.args.piece.now =
-    c.split_at.ensures.back ∙ ap (λ n. drop n c.args.piece.now) c.used-at.ensures in
+    let left = rest_at c.split_at.result.1.now c.args.piece.now c.used-at.result c.messages.ahead.used c.split_at.ensures.back c.used-at.ensures in
     next_within g.T.MessageTaker.has_heard g.T.MessageTaker.line c.args.decoder.now c.args.piece.now c.messages.invariant.takes c.next-size.result
     c.split_at.result.1.now next left
 
@@ -29,8 +28,7 @@ pub take-requires-clause-message : goal.take-requires-clause-message
 take-requires-clause-message g c =
     let some : 0 < c.next-size.result = omega (arith, c.if-size-eq0.false) in
     let next = next_here c.messages.ahead c.args.decoder.now c.args.piece.now c.next-size.result c.messages.invariant.is (c.next-size.ensures.message some) in
-    let left : c.split_at.result.1.now ≡ drop c.messages.ahead.used c.args.piece.now =
-    c.split_at.ensures.back ∙ ap (λ n. drop n c.args.piece.now) c.used-at.ensures in
+    let left = rest_at c.split_at.result.1.now c.args.piece.now c.used-at.result c.messages.ahead.used c.split_at.ensures.back c.used-at.ensures in
     let (heard, here, are) = c.requires in
     may_take g.T.MessageTaker.has_heard g.T.MessageTaker.line c.args.decoder.now c.args.piece.now c.messages.invariant.takes c.next-size.result
     c.split_at.result.1.now next left heard here are
@@ -39,8 +37,7 @@ pub messages-preserved : goal.messages-preserved
 messages-preserved g c =
     let some : 0 < c.next-size.result = omega (arith, c.if-size-eq0.false) in
     let next = next_here c.messages.ahead c.args.decoder.now c.args.piece.now c.next-size.result c.messages.invariant.is (c.next-size.ensures.message some) in
-    let left : c.split_at.result.1.now ≡ drop c.messages.ahead.used c.args.piece.now =
-    c.split_at.ensures.back ∙ ap (λ n. drop n c.args.piece.now) c.used-at.ensures in
+    let left = rest_at c.split_at.result.1.now c.args.piece.now c.used-at.result c.messages.ahead.used c.split_at.ensures.back c.used-at.ensures in
     let has = g.T.MessageTaker.has_heard in
     record {
       is = ahead_on c.messages.ahead c.next-size.new.self c.args.decoder.now c.args.piece.now _ c.messages.invariant.is c.next-size.ensures.used;
@@ -54,8 +51,7 @@ pub returns-then-len-ge-FULL_TEXT-clause-takes : goal.returns-then-len-ge-FULL_T
 returns-then-len-ge-FULL_TEXT-clause-takes g c =
     let some : 0 < c.next-size.result = omega (arith, c.if-size-eq0.false) in
     let next = next_here c.messages.ahead c.args.decoder.now c.args.piece.now c.next-size.result c.messages.invariant.is (c.next-size.ensures.message some) in
-    let left : c.split_at.result.1.now ≡ drop c.messages.ahead.used c.args.piece.now =
-    c.split_at.ensures.back ∙ ap (λ n. drop n c.args.piece.now) c.used-at.ensures in
+    let left = rest_at c.split_at.result.1.now c.args.piece.now c.used-at.result c.messages.ahead.used c.split_at.ensures.back c.used-at.ensures in
     let has = g.T.MessageTaker.has_heard in
     subst (λ n. TakesAhead has g.T.MessageTaker.line c.args.decoder.now c.args.piece.now c.args.taker.now c.take.new.self c.args.text.now.items
     c.take.new.text.items n) (sym (c.used.ensures ∙ ap (λ (a : LookedAhead). a.used) c.next-size.ensures.used))
@@ -66,8 +62,7 @@ pub messages-smaller : goal.messages-smaller
 messages-smaller g c =
     let some : 0 < c.next-size.result = omega (arith, c.if-size-eq0.false) in
     let next = next_here c.messages.ahead c.args.decoder.now c.args.piece.now c.next-size.result c.messages.invariant.is (c.next-size.ensures.message some) in
-    let left : c.split_at.result.1.now ≡ drop c.messages.ahead.used c.args.piece.now =
-    c.split_at.ensures.back ∙ ap (λ n. drop n c.args.piece.now) c.used-at.ensures in
+    let left = rest_at c.split_at.result.1.now c.args.piece.now c.used-at.result c.messages.ahead.used c.split_at.ensures.back c.used-at.ensures in
     let ends = next_ends g.T.MessageTaker.has_heard g.T.MessageTaker.line c.args.decoder.now c.args.piece.now c.messages.invariant.takes c.next-size.result
     c.split_at.result.1.now next left in
     omega (arith, some, ends, ap (λ (a : LookedAhead). a.used) c.next-size.ensures.used)
