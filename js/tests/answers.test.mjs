@@ -141,7 +141,7 @@ test("a stream that is refused memory, and one of no such kind", async () => {
     assert.equal(core.open(0xffffffff), 0n)
 })
 
-const LEAST = 65536 * 18
+const LEAST = 65536 * 3
 const TEXTS = ["tableText", "toCsv", "show"]
 
 /* Calls with a memory that has so many bytes at most: each gives what it always gives, or says that memory was refused, and the next call works. */

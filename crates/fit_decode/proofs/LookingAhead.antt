@@ -113,7 +113,7 @@ module _ {A : Type 0} (d : Inside A) (k : IsSoundDecoder d) (piece : List ℕ) (
         | inl n ↦ inl n
         | inr (fresh, fs, h, n, before, come, within, learns, large) ↦
             let (at, known, idle, left) =
-                in_data_here (fields_inside d) d.history.items fs h n before come (omega (arith, large)) d.stage.section k.holds fresh in
+            in_data_here (fields_inside d) d.history.items fs h n before come (omega (arith, large)) d.stage.section k.holds fresh in
             inr (at, idle, omega (arith, left, large), subst (λ e. Learns e e (take used piece) rs) (sym known) learns)
       ]
 
