@@ -6,9 +6,10 @@ export type Bytes = ArrayBufferLike | ArrayBufferView
 /** A number, or a BigInt where a whole number of 64 bits is no exact number. */
 export type Whole = number | bigint
 
-/** The value of a field: a number in the unit of the field; a text up to its first zero; bytes; several numbers as an array. null stands for
- * a number that is the invalid one of its base type, for an empty text, for bytes of type byte that are all 0xFF, and for a field without bytes. */
-export type Value = Whole | string | Uint8Array | null | (Whole | null)[]
+/** The value of a field: a number in the unit of the field; a text up to its first zero; bytes; several numbers as an array; with `words` a word
+ * in place of each number that has one. null stands for a number that is the invalid one of its base type, for an empty text, for bytes of type
+ * byte that are all 0xFF, and for a field without bytes. */
+export type Value = Whole | string | Uint8Array | null | (Whole | string | null)[]
 
 /** What names a field: its name, or `field_N` and `dev_I_N` where it has none; its number; of a developer field [developer data index, number]. */
 export type Key = string | number | readonly [index: number, number: number]
@@ -132,6 +133,8 @@ export class Field {
     readonly unit: string | null
     readonly baseType: number
     readonly value: Value
+    /** The word for the number that it has, as `cycling` of a sport; null where there is none. */
+    readonly word: string | null
     /** `value`, but whole numbers as text, with as many decimals as `toCsv` writes. */
     readonly exact: string | number | Uint8Array | null | (string | number | bigint | null)[]
     /** What the file has: each number unscaled, invalid ones too, of a float its bits; all bytes of a text or of bytes. */
@@ -176,6 +179,8 @@ export class Message {
     get(key: Key): Value | undefined
     has(key: Key): boolean
     unit(key: Key): string | null | undefined
+    /** The word for the number of a field, as `cycling`; null where there is none, undefined where the message has no such field. */
+    word(key: Key): string | null | undefined
     /** The values of a field as an array: of a lone number that one, without those that stand for no value. */
     values(key: Key): Exclude<Value, null | unknown[]>[]
     field(key: Key): Field | undefined
@@ -200,6 +205,10 @@ export interface Encoded extends Partial {
 export interface Only {
     /** The messages that are asked for, by name or number. Nothing is made of the others. */
     only?: Kind | Iterable<Kind>
+}
+export interface Words {
+    /** Whether a number that has a word is that word, as `cycling` for a sport. */
+    words?: boolean
 }
 export type StreamKind = "check" | "show" | "table" | "toCsv" | "blocks" | "messages"
 
@@ -228,14 +237,14 @@ export class Gazhdor {
     /** The good messages of a file that was cut or damaged as a file of their own, with the files before it. */
     mend(source: Bytes): Uint8Array
     /** A Message for each data message. */
-    messages(source: Bytes, options?: Partial & Only): IterableIterator<Message>
+    messages(source: Bytes, options?: Partial & Only & Words): IterableIterator<Message>
     /** The values of fields in all messages of a name or number, in their order. Without `fields` it is each field that one of them has.
      * `timestamp` is the time of the message in milliseconds since 1970; `.latitude` and `.longitude` are in degrees; `.file`, `.place`, `.local`,
      * `.seconds`, `.time`, `.speed`, `.distance`, `.total_cycles`, `.accumulated_power` are what the message tells of itself. */
-    columns(source: Bytes, message: Kind, fields?: Iterable<Key>, options?: Partial): Record<string, Column>
-    columns<Name extends string>(source: Bytes, message: Kind, fields: readonly Name[], options?: Partial): Record<Name, Column>
+    columns(source: Bytes, message: Kind, fields?: Iterable<Key>, options?: Partial & Words): Record<string, Column>
+    columns<Name extends string>(source: Bytes, message: Kind, fields: readonly Name[], options?: Partial & Words): Record<Name, Column>
     /** For `pipeThrough`: bytes go in, and messages, texts or blocks come out; of "check" the bytes themselves. */
-    stream(kind: "messages", options?: Only): ReadableWritablePair<Message, Bytes>
+    stream(kind: "messages", options?: Only & Words): ReadableWritablePair<Message, Bytes>
     stream(kind: "show" | "table" | "toCsv"): ReadableWritablePair<string, Bytes>
     stream(kind: "blocks"): ReadableWritablePair<Uint8Array, Bytes>
     stream(kind: "check"): ReadableWritablePair<Bytes, Bytes>
@@ -245,7 +254,7 @@ export class Gazhdor {
 
 /** FIT files that come in pieces. It keeps what the next piece needs, and no more for more bytes. */
 export class Stream<Made extends string | Uint8Array | Message[] = string | Uint8Array | Message[]> {
-    constructor(gazhdor: Gazhdor, kind: StreamKind, options?: Only)
+    constructor(gazhdor: Gazhdor, kind: StreamKind, options?: Only & Words)
     /** How many files have ended so far. */
     readonly files: number
     /** Takes the next bytes, of any length, and returns what they complete: whole lines, messages or blocks. */
@@ -265,6 +274,9 @@ export function open(source?: string | URL | Bytes | WebAssembly.Module | Respon
 /** The time that a number of a field such as `start_time` stands for. */
 export function when(seconds: number): Time
 export function when(seconds: number | null | undefined): Time | null
+
+/** The words of a type, as `sport`, by their numbers. Throws UnknownName where no type is named so. */
+export function words(type: string): Record<number, string>
 
 /** Degrees of semicircles. */
 export function degrees(semicircles: number): number

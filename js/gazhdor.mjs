@@ -19,6 +19,7 @@ export { VERSION } from "./src/core.mjs"
 export { Gazhdor, Stream } from "./src/library.mjs"
 export { Field, Message, degrees, when } from "./src/messages.mjs"
 export { UnknownName } from "./src/profile.mjs"
+export { words } from "./src/words.mjs"
 
 async function fetched(url) {
     if (url.protocol === "file:" && globalThis.process?.versions?.node !== undefined) {

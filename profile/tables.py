@@ -25,7 +25,7 @@ def rows(table, *columns):
 
 def messages():
     """Each message as its number, its name, and its fields: number, name, unit, scale, offset."""
-    columns = 'message', 'message name', 'field', 'field name', 'unit', 'scale', 'offset', 'base type'
+    columns = 'message', 'message name', 'field', 'field name', 'unit', 'scale', 'offset', 'type', 'base type'
     for (number, name), fields in itertools.groupby(rows('fields', *columns), lambda row: (row[0], row[1])):
         yield int(number), name, [(int(f[2]), f[3], f[4], int(f[5]), int(f[6])) for f in fields]
 

@@ -84,7 +84,7 @@ export class Gazhdor {
 
     /* A Message for each data message, or for those that are asked for. */
     messages(source, options = {}) {
-        const walk = new Walk(options.only)
+        const walk = new Walk(options.only, options.words)
         return this.#each("messages", source, options, blocks => walk.messages(blocks))
     }
 
@@ -96,9 +96,9 @@ export class Gazhdor {
     }
 
     /* A typed array for each of some fields of the messages of one name or number. */
-    columns(source, message, fields, { partial = false } = {}) {
+    columns(source, message, fields, { partial = false, words = false } = {}) {
         if (typeof message !== "string" && typeof message !== "number") throw new TypeError("a message is named by its name or its number")
-        const walk = new Walk(message), columns = new Columns(message, fields), bytes = bytesOf(source)
+        const walk = new Walk(message, words), columns = new Columns(message, fields), bytes = bytesOf(source)
         try {
             for (const _ of each(new Pipe(this.#core, "blocks"), bytes, blocks => [columns.take(blocks, walk.runs(blocks))]));
         } catch (error) {

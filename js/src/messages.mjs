@@ -7,6 +7,7 @@ import {
 } from "./numbers.mjs"
 import { seeMessage } from "./profile.mjs"
 import { Definition, exactOf, rawOf, whole } from "./values.mjs"
+import { wordOf } from "./words.mjs"
 
 const EPOCH = 631065600 // 1989-12-31T00:00:00 UTC, in seconds since 1970
 export const SYSTEM_TIMES = 0x10000000 // A time below is the device's own, which didn't know the time of day.
@@ -27,11 +28,13 @@ export const degrees = semicircles => semicircles * (180 / 2 ** 31)
 
 /* A field of a message. */
 export class Field {
+    #definition
     #entry
     #part
     #at
 
-    constructor(entry, part, at) {
+    constructor(definition, entry, part, at) {
+        this.#definition = definition
         this.#entry = entry
         this.#part = part
         this.#at = at
@@ -43,6 +46,7 @@ export class Field {
     get unit() { return this.#entry.unit }
     get baseType() { return this.#entry.baseType }
     get value() { return this.#entry.read(this.#part, this.#at) }
+    get word() { return wordOf(this.#definition, this.#entry, this.#part, this.#at) }
     get exact() { return exactOf(this.#entry, this.#part, this.#at) }
     get raw() { return rawOf(this.#entry, this.#part, this.#at) }
     toString() { return `${this.name ?? this.#entry.numbers}=${this.value}${this.unit === null ? "" : ` ${this.unit}`}` }
@@ -65,6 +69,9 @@ export class Message {
     has(key) { return this.#definition.entry(key) !== undefined }
     unit(key) { return this.#definition.entry(key)?.unit }
 
+    /* The word for the number of a field, as "cycling"; null where there is none, undefined where the message has no such field. */
+    word(key) { return this.field(key)?.word }
+
     /* The values of a field as an array: of a lone number that one, without those that stand for no value. */
     values(key) {
         const value = this.get(key) ?? []
@@ -73,10 +80,10 @@ export class Message {
 
     field(key) {
         const entry = this.#definition.entry(key)
-        return entry && new Field(entry, this.#part, this.#at)
+        return entry && new Field(this.#definition, entry, this.#part, this.#at)
     }
 
-    get fields() { return this.#definition.entries.map(entry => new Field(entry, this.#part, this.#at)) }
+    get fields() { return this.#definition.entries.map(entry => new Field(this.#definition, entry, this.#part, this.#at)) }
     get name() { return this.#definition.name }
     get number() { return this.#definition.number }
     get local() { return this.#part.bytes[this.#at + AT_MESSAGE_LOCAL] }
@@ -165,8 +172,10 @@ export class Walk {
     #current = new Map() // of each local message type the last definition, where it is asked for, and its number among all
     #known = new Map() // what some definitions say, so that one which comes again isn't looked into again
     #room = MOST
+    #words
 
-    constructor(only) {
+    constructor(only, words = false) {
+        this.#words = words
         this.#wants = wants(only)
         this.#all = only === undefined || only === null
     }
@@ -214,7 +223,7 @@ export class Walk {
                 this.#known.clear()
                 this.#room = MOST - same.length
             }
-            const definition = new Definition(block)
+            const definition = new Definition(block, this.#words)
             found = this.#wants(definition) ? definition : null
             this.#known.set(same, found)
         }

@@ -39,10 +39,10 @@ export class Pipe {
 }
 
 /* What makes a kind's result of the bytes of the library, where they lie. */
-function maker(kind, only) {
+function maker(kind, only, words) {
     if (kind === "blocks") return copied
     if (kind !== "messages") return decoded
-    const walk = new Walk(only)
+    const walk = new Walk(only, words)
     return bytes => walk.messages(bytes)
 }
 
@@ -56,12 +56,13 @@ export class Stream {
     #fault = null
     #files = 0
 
-    constructor(gazhdor, kind, { only } = {}) {
+    constructor(gazhdor, kind, { only, words = false } = {}) {
         if (!Object.hasOwn(KINDS, kind)) throw new TypeError(`a stream is one of ${Object.keys(KINDS).join(", ")}, and not ${String(kind)}`)
         if (only !== undefined && kind !== "messages") throw new TypeError(`a stream of ${kind} has no messages of which there may be only some`)
+        if (words && kind !== "messages") throw new TypeError(`a stream of ${kind} has no messages whose numbers may be words`)
         const core = coreOf.get(gazhdor)
         if (core === undefined) throw new TypeError("a stream is of what `open` gives")
-        this.#make = maker(kind, only)
+        this.#make = maker(kind, only, words)
         this.#pipe = new Pipe(core, kind)
     }
 

@@ -6,6 +6,7 @@ import {
     AT_ENTRY_ITEMS, AT_ENTRY_KIND, AT_ENTRY_LENGTH, AT_ENTRY_NAME, AT_ENTRY_NUMBER, AT_ENTRY_OFFSET, AT_ENTRY_SCALE,
     AT_ENTRY_UNIT, AT_ENTRY_WIDTH, BYTES, FLOAT, IS_COUNTED, SIGNED, STRING,
 } from "./numbers.mjs"
+import { tellWords } from "./words.mjs"
 
 const utf8 = new TextDecoder("utf-8", { ignoreBOM: true })
 
@@ -78,10 +79,11 @@ export class Entry {
         this.item = itemReader(this)
         this.scaled = scaler(this)
         this.read = reader(this)
+        this.isWord = false
     }
 
-    /* Whether it is one number, and not several, a text or bytes. */
-    get isNumber() { return this.kind <= FLOAT && this.count === 1 }
+    /* Whether its value is one number, and not several, a text, bytes or a word. */
+    get isNumber() { return this.kind <= FLOAT && this.count === 1 && !this.isWord }
 
     /* As the CSV text names a field without a name. */
     get numbers() { return this.index === null ? `field_${this.number}` : `dev_${this.index}_${this.number}` }
@@ -124,9 +126,9 @@ function decimal(entry, item) {
 /* A value, but whole numbers as text, with as many decimals as `toCsv` writes. */
 export function exactOf(entry, part, at) {
     const value = entry.read(part, at)
-    if (entry.kind >= FLOAT || value === null) return value
-    const raw = rawOf(entry, part, at)
-    return Array.isArray(value) ? value.map((one, k) => (one === null ? null : decimal(entry, raw[k]))) : decimal(entry, raw)
+    if (entry.kind >= FLOAT) return value
+    const raw = rawOf(entry, part, at), exact = (one, item) => (one === null || typeof one === "string" ? one : decimal(entry, item))
+    return Array.isArray(value) ? value.map((one, k) => exact(one, raw[k])) : exact(value, raw)
 }
 
 /* What is kept for attributes of a message, for its time, and for what has no name. */
@@ -138,9 +140,10 @@ export function firstEntry(bytes, at = 0) {
     return name + ((bytes.subarray(name).indexOf(0) + 8) & ~7)
 }
 
-/* What the messages of a definition have: the number and name of the message, and its fields, each by its keys. */
+/* What the messages of a definition have: the number and name of the message, and its fields, each by its keys. With `words` values are words
+ * where there are such. */
 export class Definition {
-    constructor(bytes) {
+    constructor(bytes, words = false) {
         const view = new DataView(bytes.buffer, bytes.byteOffset, bytes.byteLength)
         const count = view.getUint16(AT_DEFINITION_FIELDS, true) + view.getUint16(AT_DEFINITION_DEVELOPERS, true)
         this.number = view.getUint16(AT_DEFINITION_MESSAGE, true)
@@ -162,6 +165,7 @@ export class Definition {
             if (entry.name !== null && !hides && !this.byName.has(entry.name)) this.byName.set(entry.name, entry)
         }
         this.labels = this.#labels()
+        if (words) tellWords(this)
     }
 
     /* Each field once, by its name where it has one of its own that is taken for nothing else, and else by its numbers. */

@@ -1,5 +1,5 @@
 /* What a program in TypeScript may write with js/gazhdor.d.ts; the lines that must be refused say so. */
-import { Answer, BlocksRefused, Field, FitError, Gazhdor, Message, Refused, Stream, Truncated, UnknownName, Value, VERSION, degrees, open, when } from "./gazhdor.mjs"
+import { Answer, BlocksRefused, Field, FitError, Gazhdor, Message, Refused, Stream, Truncated, UnknownName, Value, VERSION, degrees, open, when, words } from "./gazhdor.mjs"
 
 async function all(bytes: Uint8Array, response: Response): Promise<void> {
     const gazhdor: Gazhdor = await open()
@@ -17,9 +17,12 @@ async function all(bytes: Uint8Array, response: Response): Promise<void> {
         message.get(3)
         // @ts-expect-error: a key is no object
         message.get({})
-        void [value, fields, names]
+        const word: string | null | undefined = message.word("sport") ?? fields[0].word
+        void [value, fields, names, word]
     }
     for (const row of gazhdor.table(bytes)) row.heart_rate?.toFixed(0)
+    gazhdor.messages(bytes, { words: true })
+    const sports: Record<number, string> = words("sport")
     const { altitude } = gazhdor.columns(bytes, "record", ["altitude"])
     if (altitude instanceof Float64Array) altitude[0].toFixed(1)
     const text: string = gazhdor.toCsv(bytes)
@@ -45,7 +48,7 @@ async function all(bytes: Uint8Array, response: Response): Promise<void> {
         if (error instanceof UnknownName) error.nearest?.trim()
         if (error instanceof FitError && error.reason === "FileSum") error.explanation.trim()
     }
-    void [reason, encoded, wrong, again, next, when(5), degrees(5), VERSION]
+    void [reason, encoded, wrong, again, next, sports, when(5), degrees(5), VERSION]
 }
 
 void all

@@ -57,6 +57,7 @@ from ._write.mending import mend
 from ._write.message_writer import Definition
 from ._write.sinks import Sink, Writable
 from ._write.writer import Writer, from_blocks
+from ._words import words
 from .errors import (
     BlocksRefused,
     FitError,
@@ -95,6 +96,7 @@ __all__ = [
     "from_blocks",
     "when",
     "degrees",
+    "words",
     "Names",
     "Named",
     "EXTRA",

@@ -7,6 +7,7 @@ from typing import Any, NamedTuple, Optional, Union
 from ._base_types import base_named
 from ._library import packed
 from ._profile import Kind, number_of, profile
+from ._words import words_by_type
 
 _COLUMNS = ("message", "message name", "field", "field name", "unit", "scale", "offset", "type", "base type")
 TYPES = ("date_time", "local_date_time")
@@ -22,7 +23,7 @@ class Named(NamedTuple):
     scale   a whole number `raw` stands for `raw / scale - offset` units; floats stand for themselves
     offset
     type    'date_time' where it is a time in seconds since 1989-12-31T00:00:00 UTC, 'local_date_time' where it is one
-            by the clock of the place; else None
+            by the clock of the place; a type of which there are words, as 'sport'; else None
     base    the name of the base type that it has when it is written, as 'uint16'
     """
 
@@ -64,8 +65,8 @@ def _see_named(named: Named) -> Named:
         raise ValueError("a scale can't be 0")
     if named.base is not None:
         base_named(named.base)
-    if named.type not in (None, *TYPES):
-        raise ValueError(f"a type is {' or '.join(TYPES)}, and not {named.type!r}")
+    if named.type not in (None, *TYPES) and named.type not in words_by_type():
+        raise ValueError(f"a type is {', '.join(TYPES)} or one of words, as sport, and not {named.type!r}")
     return named
 
 

@@ -17,13 +17,14 @@ _MOST_NAMES, _MOST_LETTERS = 1000, 80  # So many names are compared, and none th
 
 class Info(NamedTuple):
     """What the profile says of a field: an item `raw` stands for `raw / scale - offset` units; its base type is usually
-    `base`."""
+    `base`; `type` is that of a time or of words, or empty."""
 
     name: str
     unit: str
     scale: int
     offset: int
     base: str
+    type: str = ""
 
 
 class Known(NamedTuple):
@@ -36,7 +37,7 @@ class Known(NamedTuple):
 
 
 # Field 253 has a name in all messages, and field 254 in those of the profile; they aren't in the table.
-_INFO_OF_ALL = {253: Info("timestamp", "s", 1, 0, "uint32")}
+_INFO_OF_ALL = {253: Info("timestamp", "s", 1, 0, "uint32", "date_time")}
 _OF_ALL = {"timestamp": 253}
 _INDEX = {254: Info("message_index", "", 1, 0, "uint16")}
 
@@ -47,11 +48,11 @@ def profile() -> dict[str, Known]:
     found: dict[str, Known] = {}
     lines = (packed("profile.tsv") or b"").decode().splitlines()
     for line in lines[1:]:
-        number, name, field, field_name, unit, scale, offset, base = line.split("\t")
+        number, name, field, field_name, unit, scale, offset, kind, base = line.split("\t")
         of_all = {**_OF_ALL, "message_index": 254}, {**_INFO_OF_ALL, **_INDEX}
         known = found.setdefault(name, Known(int(number), *of_all))
         known.fields[field_name] = int(field)
-        known.told[int(field)] = Info(field_name, unit, int(scale), int(offset), base)
+        known.told[int(field)] = Info(field_name, unit, int(scale), int(offset), base, kind)
     return found
 
 

@@ -152,6 +152,36 @@ class Types(unittest.TestCase):
         self.assertGreater(compared, 90)
 
 
+# Where Garmin::FIT calls a type otherwise.
+TYPE_SPELLINGS = {"power_zone_calc": "pwr_zone_calc"}
+
+
+class Words(unittest.TestCase):
+    def test_words(self):
+        """The words of each number that both know."""
+        known, compared = {}, 0
+        for kind, number, word in asked("garmin_words.pl"):
+            known.setdefault((kind, number), []).append(word.lower())
+        for line in text_at(in_tree("profile/words.tsv")).splitlines()[1:]:
+            kind, number, word = line.split("\t")
+            if (kind, number) in known:
+                self.assertIn(word, known[kind, number], (kind, number))
+                compared += 1
+        self.assertGreater(compared, 700)
+
+    def test_types(self):
+        """The types of the fields for which both have one."""
+        known = {(message, field): kind for message, field, kind in asked("garmin_words.pl") if message.isdigit()}
+        compared = 0
+        for path in ("profile/fields.tsv", "profile/extra.tsv"):
+            for row in (line.split("\t") for line in text_at(in_tree(path)).splitlines() if line[0].isdigit()):
+                kind = known.get((row[0], row[2]))
+                if kind and row[7]:
+                    self.assertEqual(row[7], TYPE_SPELLINGS.get(kind, kind), row)
+                    compared += 1
+        self.assertGreater(compared, 70)
+
+
 CODES = {"enum": 0, "sint8": 1, "uint8": 2, "sint16": 0x83, "uint16": 0x84, "sint32": 0x85, "uint32": 0x86, "string": 7,
     "float32": 0x88, "float64": 0x89}
 CODES.update({"uint8z": 10, "uint16z": 0x8B, "uint32z": 0x8C, "byte": 13, "sint64": 0x8E, "uint64": 0x8F,

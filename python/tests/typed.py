@@ -26,6 +26,9 @@ def use(upload: BinaryIO, opened: io.BufferedReader) -> None:
             value: gazhdor.Value = field.value
             of: Tuple[Optional[str], int, Optional[int]] = (field.name, field.number, field.developer)
             unit: Optional[str] = message.unit("a")
+            words: Tuple[Optional[str], Optional[str]] = (field.word, message.word("sport"))
+    sports: Dict[int, str] = gazhdor.words("sport")
+    worded: Iterator[gazhdor.Message] = gazhdor.messages("a", words=True)
     lists: Dict[gazhdor.Key, List[Any]] = gazhdor.lists(opened, "record", ["heart_rate", 3, (0, 1)])
     arrays: Dict[gazhdor.Key, Any] = gazhdor.columns(opened, 20, partial=True)
     with gazhdor.Stream("table") as stream:
@@ -46,7 +49,7 @@ def use(upload: BinaryIO, opened: io.BufferedReader) -> None:
             "record", ["timestamp", 3, dev, (200, "uint16"), (201, "string", 16)], local=1)
         record.write({dev: 5, 3: None}, timestamp=datetime.datetime.now(datetime.timezone.utc))
         record.columns({"timestamp": [1, 2]}, heart_rate=[None, 1.5])
-        out.write("file_id", type=4)
+        out.write("file_id", type="activity")
         for event in gazhdor.messages(upload, everything=True):
             if isinstance(event, gazhdor.DefinitionMessage):
                 sizes: List[int] = [field.size for field in event.fields]

@@ -116,8 +116,9 @@ impl<'a> Draft<'a> {
         Ok(self)
     }
 
-    /// Gives a field another value, as [`Field::whole`] gives values: a number, in the field's unit; a text; as many bytes as the field has.
-    /// [`Value::None`] makes it have no value.
+    /// Gives a field another value, as [`Field::whole`] gives values: a number, in the field's unit, or its word, as `"cycling"`; a text; as
+    /// many bytes as the field has. [`Value::None`] makes it have no value. Where it depends on another field which words there are, as of
+    /// products on the manufacturer, that field is set before.
     ///
     /// # Errors
     ///
@@ -216,7 +217,7 @@ impl<'a> Draft<'a> {
 
     /// Leaves no field a value.
     pub(crate) fn clear(&mut self) {
-        for field in Entries::new(self.definition).map(|entry| Field::new(entry, &[])) {
+        for field in Entries::new(self.definition).map(|entry| Field::new(entry, &[], &[])) {
             let items = self.block.get_mut(field.begins()..field.begins() + field.width() * field.count());
             let width = field.width().clamp(1, 8);
             for item in items.unwrap_or(&mut []).chunks_exact_mut(width) {

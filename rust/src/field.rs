@@ -3,9 +3,9 @@ use crate::blocks::{eight, four, some, text, two, up_to_zero};
 use crate::measure::Measure;
 use crate::names::{Named, Names};
 use crate::numbers::{
-    AT_ENTRY_BASE_TYPE, AT_ENTRY_COUNT, AT_ENTRY_DECIMALS, AT_ENTRY_DEVELOPER, AT_ENTRY_INDEX, AT_ENTRY_INVALID,
-    AT_ENTRY_ITEMS, AT_ENTRY_KIND, AT_ENTRY_NAME, AT_ENTRY_NUMBER, AT_ENTRY_OFFSET, AT_ENTRY_SCALE, AT_ENTRY_UNIT,
-    AT_ENTRY_WIDTH, BYTES, FLOAT, SIGNED, STRING,
+    AT_DEFINITION_MESSAGE, AT_ENTRY_BASE_TYPE, AT_ENTRY_COUNT, AT_ENTRY_DECIMALS, AT_ENTRY_DEVELOPER, AT_ENTRY_INDEX,
+    AT_ENTRY_INVALID, AT_ENTRY_ITEMS, AT_ENTRY_KIND, AT_ENTRY_NAME, AT_ENTRY_NUMBER, AT_ENTRY_OFFSET, AT_ENTRY_SCALE,
+    AT_ENTRY_UNIT, AT_ENTRY_WIDTH, BYTES, FLOAT, SIGNED, STRING,
 };
 use std::fmt::{self, Debug, Formatter};
 use std::str;
@@ -29,7 +29,7 @@ use std::str;
 /// let course = messages.iter().find(|message| message.number() == 31).unwrap();
 /// assert_eq!(course.numbered(5).unwrap().whole(), Value::Text("Lake loop"));
 /// ```
-#[derive(Clone, Copy, PartialEq, Eq)]
+#[derive(Clone, Copy)]
 pub struct Field<'a> {
     /// Its entry in the definition, of 48 bytes at least.
     entry: &'a [u8],
@@ -37,7 +37,18 @@ pub struct Field<'a> {
     items: &'a [u8],
     /// What is said of it beside the profile.
     named: Option<&'a Named>,
+    /// The blocks of its definition and of its message, and what is said beside the profile.
+    home: (&'a [u8], &'a [u8], Option<&'a Names>),
 }
+
+/// Whether both have the same items, and the same is said of them.
+impl PartialEq for Field<'_> {
+    fn eq(&self, other: &Field<'_>) -> bool {
+        (self.entry, self.items, self.named) == (other.entry, other.items, other.named)
+    }
+}
+
+impl Eq for Field<'_> {}
 
 /// An item of a field, just as it is in the file, also one that stands for no value.
 #[derive(Debug, Clone, Copy, PartialEq, Eq, Hash)]
@@ -74,17 +85,34 @@ pub enum Value<'a> {
 }
 
 impl<'a> Field<'a> {
-    /// The field of an entry of 48 bytes at least, in the block of a message.
-    pub(crate) fn new(entry: &'a [u8], message: &'a [u8]) -> Field<'a> {
+    /// The field of an entry of 48 bytes at least, in the blocks of a definition and of a message.
+    pub(crate) fn new(entry: &'a [u8], definition: &'a [u8], message: &'a [u8]) -> Field<'a> {
         let first = four(entry, AT_ENTRY_ITEMS) as usize;
         let end = first.saturating_add(usize::from(entry[AT_ENTRY_WIDTH]) * usize::from(entry[AT_ENTRY_COUNT]));
-        Field { entry, items: message.get(first..end).unwrap_or(&[]), named: None }
+        let home = (definition, message, None);
+        Field { entry, items: message.get(first..end).unwrap_or(&[]), named: None, home }
     }
 
     /// The field by what these names say of it, in a message of this number.
     pub(crate) fn named(self, names: &'a Names, message: u16) -> Field<'a> {
         let named = if self.developer().is_none() { names.field(message, self.number()) } else { None };
-        Field { named, ..self }
+        Field { named, home: (self.home.0, self.home.1, Some(names)), ..self }
+    }
+
+    /// The field of another entry in the same message.
+    pub(crate) fn beside(&self, entry: &'a [u8]) -> Field<'a> {
+        Field::new(entry, self.home.0, self.home.1)
+    }
+
+    /// The block of its definition.
+    pub(crate) fn definition(&self) -> &'a [u8] {
+        self.home.0
+    }
+
+    /// Of a field that is none of a developer, the number of its message and what is said beside the profile.
+    pub(crate) fn defined(&self) -> Option<(u16, Option<&'a Names>)> {
+        let is_whole = self.developer().is_none() && self.home.0.len() > AT_DEFINITION_MESSAGE + 1;
+        is_whole.then(|| (two(self.home.0, AT_DEFINITION_MESSAGE), self.home.2))
     }
 
     /// Its name in the profile, as `heart_rate`, or that which the file gives to a developer field.

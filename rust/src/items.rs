@@ -13,6 +13,11 @@ pub(crate) fn number(field: &Field<'_>, value: Value<'_>) -> Result<u64, Unfit> 
         Value::Unsigned(whole) => step(field, value, field.measure().nearest_to_whole(whole.into())),
         Value::Signed(whole) => step(field, value, field.measure().nearest_to_whole(whole.into())),
         Value::Float(number) => step(field, value, field.measure().nearest(number)),
+        Value::Text(word) if field.kind() != FLOAT => match field.number_of_word(word) {
+            Some(number) => step(field, value, Some(number.into())),
+            None if field.has_words() => Err(kind(field, &value, "a number or one of its words")),
+            None => Err(kind(field, &value, "a number")),
+        },
         _ => Err(kind(field, &value, "a number")),
     }
 }

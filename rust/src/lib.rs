@@ -47,6 +47,7 @@ mod streams;
 mod tests;
 mod time;
 mod value_error;
+mod words;
 mod writer;
 
 pub use base_type::BaseType;
@@ -65,6 +66,7 @@ pub use reason::Reason;
 pub use streams::{Made, ReadFault, Reading, Stream};
 pub use time::Time;
 pub use value_error::Unfit;
+pub use words::words;
 pub use writer::{WriteFault, Writer};
 
 use fault::found;

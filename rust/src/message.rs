@@ -231,7 +231,9 @@ impl<'a> Message<'a> {
         match name {
             [] => None,
             _ if self.names.is_some() => self.fields().find(|field| field.is_named(name)),
-            _ => Entries::new(self.definition).find(is_named).map(|entry| Field::new(entry, self.block)),
+            _ => {
+                Entries::new(self.definition).find(is_named).map(|entry| Field::new(entry, self.definition, self.block))
+            }
         }
     }
 
@@ -251,6 +253,12 @@ impl<'a> Message<'a> {
     #[must_use]
     pub fn value(&self, name: &str) -> Option<f64> {
         self.field(name)?.value(0)
+    }
+
+    /// The word for the number of the first field of this name, as `cycling` of `sport`: `field(name)?.word()`.
+    #[must_use]
+    pub fn word(&self, name: &str) -> Option<&'static str> {
+        self.field(name)?.word()
     }
 
     /// Its definition.
@@ -313,6 +321,7 @@ impl Debug for Message<'_> {
 #[derive(Clone)]
 pub struct Fields<'a> {
     entries: Entries<'a>,
+    definition: &'a [u8],
     message: &'a [u8],
     /// What is said of fields beside the profile, and the number of the message.
     named: Option<(&'a Names, u16)>,
@@ -320,7 +329,7 @@ pub struct Fields<'a> {
 
 impl<'a> Fields<'a> {
     pub(crate) fn new(definition: &'a [u8], message: &'a [u8], named: Option<(&'a Names, u16)>) -> Fields<'a> {
-        Fields { entries: Entries::new(definition), message, named }
+        Fields { entries: Entries::new(definition), definition, message, named }
     }
 }
 
@@ -328,7 +337,7 @@ impl<'a> Iterator for Fields<'a> {
     type Item = Field<'a>;
 
     fn next(&mut self) -> Option<Field<'a>> {
-        let field = Field::new(self.entries.next()?, self.message);
+        let field = Field::new(self.entries.next()?, self.definition, self.message);
         Some(match self.named {
             Some((names, message)) => field.named(names, message),
             None => field,

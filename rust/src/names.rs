@@ -1,5 +1,6 @@
 //! Names, units and scales beside those of the profile.
 use crate::base_type::BaseType;
+use crate::words::type_named;
 use std::collections::BTreeMap;
 use std::error::Error;
 use std::fmt::{self, Display, Formatter};
@@ -55,6 +56,8 @@ pub struct Names {
     messages: BTreeMap<u16, String>,
     fields: BTreeMap<(u16, u8), Named>,
     base_types: BTreeMap<(u16, u8), BaseType>,
+    /// The types by which numbers of fields have words.
+    types: BTreeMap<(u16, u8), &'static str>,
 }
 
 /// What is wrong with a text of names, and in which line, counted from 1.
@@ -90,7 +93,8 @@ impl Names {
 
     /// The names of a text with tabs between cells. It begins with the names of its columns, which are some of `message`, `message name`,
     /// `field`, `field name`, `unit`, `scale`, `offset`, `type` and `base type`; messages and fields are numbers. An empty cell leaves what
-    /// is known, a row without a field names a message alone, and a line that begins with `#` says nothing, nor does `type` here.
+    /// is known, a row without a field names a message alone, and a line that begins with `#` says nothing. A `type` is `date_time` or
+    /// `local_date_time`, which say nothing here, or one that has [`words`](crate::words()).
     ///
     /// # Errors
     ///
@@ -129,6 +133,10 @@ impl Names {
                 return Err("a scale can't be 0");
             }
             self.name_field(message, field, Named { name: text("field name"), unit: text("unit"), scale, offset });
+            if !["", "date_time", "local_date_time"].contains(&cell("type")) {
+                let kind = type_named(cell("type")).ok_or("there is no such type")?;
+                self.types.insert((message, field), kind);
+            }
             if !cell("base type").is_empty() {
                 let base_type = BaseType::named(cell("base type")).ok_or("there is no such base type")?;
                 self.set_base_type(message, field, base_type);
@@ -156,6 +164,11 @@ impl Names {
     #[must_use]
     pub fn base_type(&self, message: u16, field: u8) -> Option<BaseType> {
         self.base_types.get(&(message, field)).copied()
+    }
+
+    /// The type by which numbers of a field have words.
+    pub(crate) fn type_of(&self, message: u16, field: u8) -> Option<&'static str> {
+        self.types.get(&(message, field)).copied()
     }
 
     /// The name of a message.

@@ -38,6 +38,11 @@ pub(crate) fn base_type(message: u16, number: u8) -> Option<BaseType> {
     common.or_else(|| PROFILE.with(|profile| profile.base_type(message, number)))
 }
 
+/// The type by which numbers of a field have words.
+pub(crate) fn type_of(message: u16, number: u8) -> Option<&'static str> {
+    PROFILE.with(|profile| profile.type_of(message, number))
+}
+
 #[cfg(test)]
 mod tests {
     use super::*;

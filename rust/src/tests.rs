@@ -139,13 +139,13 @@ fn odd_entries() {
     ];
     for ([width, count], numbers, value, raw, length) in entries {
         let entry = entry("", "", [0, 0, 0, 2, 0, width, count, 0], numbers, 0);
-        let field = Field::new(&entry, &[1; 48]);
+        let field = Field::new(&entry, &[], &[1; 48]);
         assert_eq!((field.value(0), field.raw(0), field.bytes().len()), (value, raw, length));
         let plain = if numbers[1..] == [1, 0] { Value::Unsigned(1) } else { Value::Float(value.unwrap_or(0.0)) };
         assert_eq!(field.item(0), if value.is_some() { plain } else { Value::None });
     }
     let none = entry("", "", [0, 0, 0, 13, 4, 1, 0, 0], [40, 1, 0], 0);
-    assert_eq!(Field::new(&none, &[1; 48]).whole(), Value::None);
+    assert_eq!(Field::new(&none, &[], &[1; 48]).whole(), Value::None);
 }
 
 /// What isn't a whole block ends the messages, and those without their definition are passed over.

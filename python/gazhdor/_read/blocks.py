@@ -67,8 +67,9 @@ def _wants(only: Only, names: Optional[Names]) -> Callable[[int], bool]:
 class Walk:
     """Goes through blocks, which may come in parts, and knows the definitions that came with earlier ones."""
 
-    def __init__(self, only: Only = None, names: Optional[Names] = None) -> None:
+    def __init__(self, only: Only = None, names: Optional[Names] = None, words: bool = False) -> None:
         self._wants, self._names, self._natives = _wants(only, names), names, Natives()
+        self._words = words
         # the last definition of each local message type, where it is asked for, and which it is of all
         self._current: dict[int, tuple[Optional[Definition], int]] = {}
         # the last definition of each local message type, where it is of field descriptions
@@ -123,5 +124,5 @@ class Walk:
             if self._room < 0:
                 self._known.clear()
                 self._room = _MOST - len(data)
-            self._known[same] = Definition(data, told(self._names, number, natives))
+            self._known[same] = Definition(data, told(self._names, number, natives, self._words))
         return self._known[same]

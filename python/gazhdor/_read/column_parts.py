@@ -24,14 +24,16 @@ from ..errors import FitError, TooManyCells
 from .blocks import Walk
 from .streams import each
 from .values import Definition, Entry, Key, as_value, degrees, whole_number
+from .words import choices
 
 TIME = "timestamp"
 _BATCH = 1 << 18  # At least that many bytes of blocks are taken at once.
 _FEW_CELLS, _MOST_EMPTY = 1 << 22, 16
 _FEW_DEFINITIONS = 16
 
-# How the items of a field are told: as its value, in degrees, as a time in UTC, as a time by the clock of the place.
-VALUE, DEGREES, DATE, LOCAL = "value", "degrees", "date_time", "local_date_time"
+# How the items of a field are told: as its value, in degrees, as a time in UTC, as a time by the clock of the place, as
+# words.
+VALUE, DEGREES, DATE, LOCAL, WORDS = "value", "degrees", "date_time", "local_date_time", "words"
 
 
 class Cell(NamedTuple):
@@ -73,6 +75,8 @@ def _cell(definition: Definition, key: Key, times: bool) -> Optional[Cell]:
         entry = _OWN.get(key) or (_COUNTED.get(key) if definition.is_counted else None)
     else:
         entry = definition.by_key.get(key)
+    if entry and definition.says_words and id(entry) in choices(definition):
+        return Cell(entry, WORDS)
     # A field of no size has no value.
     return Cell(entry, entry.type or VALUE if times else VALUE) if entry and entry.count else None
 
@@ -149,7 +153,7 @@ class Part:
     def values(self, cell: Cell) -> list[Any]:
         """What a column has of its messages."""
         entry = cell.entry
-        if entry.kind > FLOAT:
+        if entry.kind > FLOAT or cell.form == WORDS:
             data, length = bytes(self.view), self.length
             return [entry.read(data[at : at + length]) for at in range(0, len(data), length)]
         found = [told(cell, *self._numbers(entry, entry.begins + k * entry.width)) for k in range(entry.count)]
@@ -199,10 +203,10 @@ def _up_to_fault(parts: Iterator[bytes], partial: bool) -> Iterator[bytes]:
             raise
 
 
-def _parts(source: Source, message: Kind, partial: bool, names: Optional[Names]) -> Iterator[tuple[Definition, Part]]:
-    if not isinstance(message, (str, int)):
-        raise TypeError(f"a message is named by its name or its number, and not by {type(message).__name__}")
-    walk = Walk(message, names)
+def _parts(source: Source, asked: "Asked", partial: bool) -> Iterator[tuple[Definition, Part]]:
+    if not isinstance(asked.message, (str, int)):
+        raise TypeError(f"a message is named by its name or its number, and not by {type(asked.message).__name__}")
+    walk = Walk(asked.message, asked.names, asked.words)
     taken: dict[int, tuple[Definition, Part]] = {}
     size = row = 0
     for blocks in _up_to_fault(each("blocks", source, partial, ahead=False), partial):
@@ -223,12 +227,13 @@ def _parts(source: Source, message: Kind, partial: bool, names: Optional[Names])
 
 class Asked(NamedTuple):
     """What a caller asks for: the fields, or None for all; whether fields that are times are told as such; names of the
-    caller."""
+    caller; whether numbers are told as words."""
 
     message: Kind
     fields: Optional[list[Key]]
     times: bool
     names: Optional[Names]
+    words: bool = False
 
 
 Values = Any  # the list of a part, or an array
@@ -252,7 +257,7 @@ class Table:
 
     def read(self, source: Source, partial: bool) -> None:
         asked = self._asked
-        for definition, part in _parts(source, asked.message, partial, asked.names):
+        for definition, part in _parts(source, asked, partial):
             part.join()
             self._add(definition, part)
             part.drop()

@@ -8,7 +8,7 @@ from .._numbers import FLOAT
 from .._profile import Kind
 from .._sources import Source
 from .._times import EPOCH, SYSTEM_TIMES
-from .column_parts import DATE, DEGREES, LOCAL, VALUE, Asked, Cell, Part, Piece, Table, told
+from .column_parts import DATE, DEGREES, LOCAL, VALUE, WORDS, Asked, Cell, Part, Piece, Table, told
 from .values import Entry, Key, label
 
 _UNIX = int(EPOCH.timestamp())
@@ -23,10 +23,10 @@ def _needed(name: str) -> Any:
         raise ModuleNotFoundError(what, name=error.name) from None
 
 
-def _asked(message: Kind, fields: Optional[Iterable[Key]], times: bool, names: Told) -> Asked:
+def _asked(message: Kind, fields: Optional[Iterable[Key]], times: bool, names: Told, words: bool) -> Asked:
     if isinstance(fields, (str, int)):
         raise TypeError("the fields are a list of names, and not one name")
-    return Asked(message, None if fields is None else list(fields), times, names_of(names))
+    return Asked(message, None if fields is None else list(fields), times, names_of(names), words)
 
 
 # ---- lists
@@ -50,6 +50,7 @@ def lists(
     *,
     times: bool = False,
     names: Told = None,
+    words: bool = False,
 ) -> dict[Key, list[Any]]:
     """Returns a list for each of the fields, with the value in each message of one name or number, in their order: the
     values are those of `Message`, and None where a message has no such field. So `zip(*lists.values())` are rows.
@@ -60,12 +61,12 @@ def lists(
     and ".longitude" are its position in degrees. Without `fields` it is each field that one of the messages has, by its
     name where it has one, and "timestamp" first, where one of them has a time or that field. With `times` the fields
     that are times, as `start_time`, are told as `Message.times` has them. `names` are names of the caller's own, as for
-    `messages`.
+    `messages`, and `words` are as there.
 
     With `partial` it is what comes before a fault; else a fault is raised, as `Refused` or `Truncated`. `UnknownName`
     is raised for a name that neither the profile nor the file has, and `TooManyCells` without `fields` where nearly all
     of very many cells would be empty."""
-    table = Table(_asked(message, fields, times, names), Part.values)
+    table = Table(_asked(message, fields, times, names, words), Part.values)
     table.read(source, partial)
     return {key: _list(table, table.pieces(key)) for key in table.keys}
 
@@ -74,10 +75,11 @@ def lists(
 
 
 class _Array(NamedTuple):
-    """A column, and whether it has times in UTC."""
+    """A column, and whether it has times in UTC, or words."""
 
     values: Any
     is_utc: bool
+    is_words: bool
 
 
 class _Arrays:
@@ -89,7 +91,7 @@ class _Arrays:
 
     def _take(self, part: Part, cell: Cell) -> Any:
         entry = cell.entry
-        if not entry.is_number:
+        if not entry.is_number or cell.form == WORDS:
             return part.values(cell)
         items = self.numpy.frombuffer(part.view, "<" + entry.item_code).reshape(part.messages, -1)
         return items[:, entry.begins // entry.width].copy()
@@ -120,7 +122,9 @@ class _Arrays:
 
     def _objects(self, cell: Cell, items: Any) -> Any:
         """As lists have them."""
-        values = told(cell, items.tolist(), self._floats(cell.entry, items).tolist()) if cell.entry.is_number else items
+        values = items
+        if cell.entry.is_number and cell.form != WORDS:
+            values = told(cell, items.tolist(), self._floats(cell.entry, items).tolist())
         column = self.numpy.empty(len(values), object)
         # one by one, as tuples would be rows
         for row, value in enumerate(values):
@@ -143,7 +147,8 @@ class _Arrays:
             column = numpy.full(self.table.rows, empty, kind)
             for part, cell, items in pieces:
                 column[part.where(numpy)] = make(cell, items)
-        return _Array(column, kind == "M8[s]" and forms == {DATE})
+        is_words = all(cell.entry.is_number and cell.form == WORDS for _, cell, _ in pieces) and bool(pieces)
+        return _Array(column, kind == "M8[s]" and forms == {DATE}, is_words)
 
     def columns(self) -> dict[Key, _Array]:
         return {key: self.column(key) for key in self.table.keys}
@@ -174,6 +179,7 @@ def columns(
     *,
     times: bool = False,
     names: Told = None,
+    words: bool = False,
 ) -> dict[Key, Any]:
     """Returns a numpy array for each of the fields, with the value in each message of one name or number, in their
     order.
@@ -183,9 +189,9 @@ def columns(
     timestamp header, and NaT where there is none or where the device didn't know it; the number 253 is the field
     itself. A field that is a text, bytes or several numbers in one of the messages gives an object array of what
     `Message` has, None where there is nothing. With `times` each field that is a time is datetime64[s], as "timestamp"
-    is. `fields`, `partial`, `times` and `names` are as for `lists`, and so are the errors. It raises
-    ModuleNotFoundError where numpy isn't installed."""
-    arrays = _Arrays(_needed("numpy"), _asked(message, fields, times, names))
+    is. With `words` each field whose numbers have words is an object array of these. `fields`, `partial`, `times` and
+    `names` are as for `lists`, and so are the errors. It raises ModuleNotFoundError where numpy isn't installed."""
+    arrays = _Arrays(_needed("numpy"), _asked(message, fields, times, names, words))
     arrays.table.read(source, partial)
     return {key: array.values for key, array in arrays.columns().items()}
 
@@ -198,13 +204,15 @@ def frame(
     *,
     times: bool = False,
     names: Told = None,
+    words: bool = False,
 ) -> Any:
     """Returns the arrays of `columns` as a DataFrame of pandas, a row for each message. The labels are the names, where
     there is none `field_N`, or `dev_I_N`, I being the developer data index; so is the label of a developer field whose
     name differs from another one by the case of letters alone. Times are in UTC, those by the clock of the place
-    without a zone. It raises ModuleNotFoundError where numpy or pandas isn't installed."""
+    without a zone. Columns of words are categories. It raises ModuleNotFoundError where numpy or pandas isn't
+    installed."""
     pandas = _needed("pandas")
-    arrays = _Arrays(_needed("numpy"), _asked(message, fields, times, names))
+    arrays = _Arrays(_needed("numpy"), _asked(message, fields, times, names, words))
     arrays.table.read(source, partial)
     labels = arrays.labels()
     found = {labels[key]: array for key, array in arrays.columns().items()}
@@ -212,4 +220,6 @@ def frame(
     for name, array in found.items():
         if array.is_utc:
             table[name] = table[name].dt.tz_localize("UTC")
+        elif array.is_words:
+            table[name] = table[name].astype("category")
     return table

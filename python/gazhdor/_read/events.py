@@ -170,8 +170,8 @@ Everything = Union[FileHeader, DefinitionMessage, Message, FileEnd]
 class Events(Walk):
     """Goes through blocks, and makes of each an event."""
 
-    def __init__(self, names: Optional[Names]) -> None:
-        super().__init__(None, names)
+    def __init__(self, names: Optional[Names], words: bool = False) -> None:
+        super().__init__(None, names, words)
 
     def events(self, blocks: bytes) -> Iterator[Everything]:
         at, end, current = 0, len(blocks), self._current

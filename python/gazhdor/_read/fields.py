@@ -1,7 +1,8 @@
 """A field of a message, as it is when it is asked for."""
 from typing import Any, Optional
 
-from .values import Entry, Exact, Raw, Value, label, read_exact, read_raw
+from .values import Definition, Entry, Exact, Raw, Value, label, read_exact, read_raw
+from .words import word_of
 
 
 class Field:
@@ -16,16 +17,18 @@ class Field:
                numbers as a tuple of these; a text as a str, up to its first zero; bytes as bytes. None stands for a
                number that is the invalid one of its base type, for an empty text, for bytes of type byte that are all
                0xFF, and for a field without bytes
+    word       the word for the number that it has, as 'cycling' of a sport; None where there is none. It is also
+               `value` where the messages were asked for with `words=True`
     native     of a developer field the number of the field that it stands for, by its description, else None
     exact      `value`, but a scaled whole number as a Decimal, with as many decimals as `to_csv` writes
     raw        what the file has: an int for each number, unscaled and invalid ones too, of a float its bits; all bytes
                of a text or of bytes
     """
 
-    __slots__ = ("_block", "_entry")
+    __slots__ = ("_block", "_entry", "_definition")
 
-    def __init__(self, block: bytes, entry: Entry) -> None:
-        self._block, self._entry = block, entry
+    def __init__(self, block: bytes, entry: Entry, definition: Definition) -> None:
+        self._block, self._entry, self._definition = block, entry, definition
 
     @property
     def name(self) -> Optional[str]:
@@ -56,6 +59,10 @@ class Field:
         return self._entry.read(self._block)
 
     @property
+    def word(self) -> Optional[str]:
+        return word_of(self._definition, self._entry, self._block)
+
+    @property
     def exact(self) -> Exact:
         return read_exact(self._entry, self.value, self.raw)
 
@@ -77,8 +84,13 @@ class Field:
         return hash(self._all())
 
     def __reduce__(self) -> Any:
-        return Field, (self._block, self._entry)
+        return _field, (self._block, self._definition, self._definition.entries.index(self._entry))
 
     def __repr__(self) -> str:
         unit = f" {self.unit}" if self.unit else ""
         return f"<gazhdor.Field {label(self.name or self._entry.key)}={self.value!r}{unit}>"
+
+
+def _field(block: bytes, definition: Definition, place: int) -> Field:
+    """A field that was copied or sent to another process."""
+    return Field(block, definition.entries[place], definition)

@@ -28,9 +28,11 @@ from .._numbers import (
 from .._profile import UnknownName, fields_of
 from .._times import HEADER_TIME, NO_TIME_BYTES, OWN_TIME, Time, when
 from .._write.items import Packer, packers
+from .._write.words import numbered
 from .blocks import Run
 from .fields import Field
 from .values import Definition, Entry, Key, Number, Value, degrees
+from .words import word_of
 
 _FILE, _PLACE, _TIME = struct.Struct("<I").unpack_from, struct.Struct("<Q").unpack_from, struct.Struct("<I").unpack_from
 
@@ -137,7 +139,7 @@ class Message(Mapping[Key, Any]):
         is what `messages` gives; of a field in semicircles a float is degrees, and a time may be a datetime. What a
         field can't have is a `WrongValue`."""
         block, packs = bytearray(self._block), packers(self._definition)
-        changes: dict[Any, Any] = {**(values or {}), **fields}
+        changes = numbered(self._definition, {**(values or {}), **fields}, self._block)
         for key, value in changes.items():
             if key not in packs:
                 raise self._missing(key)
@@ -152,7 +154,7 @@ class Message(Mapping[Key, Any]):
         field."""
         block = bytearray(self._block)
         for entry in self._definition.entries:
-            if wanted(Field(self._block, entry)):
+            if wanted(Field(self._block, entry, self._definition)):
                 pack = Packer(entry)
                 block[pack.begins : pack.begins + pack.size] = pack.none
                 if entry.key == 253 and entry.type:
@@ -200,9 +202,14 @@ class Message(Mapping[Key, Any]):
         such field."""
         return self._entry(key).unit
 
+    def word(self, key: Key) -> Optional[str]:
+        """Returns the word for the number of a field, as 'cycling' for the 2 of "sport", or None where there is none. It
+        raises KeyError where there is no such field."""
+        return word_of(self._definition, self._entry(key), self._block)
+
     def field(self, key: Key) -> Field:
         """Returns a field. It raises KeyError where the message has no such field."""
-        return Field(self._block, self._entry(key))
+        return Field(self._block, self._entry(key), self._definition)
 
     def _entry(self, key: Key) -> Entry:
         entry = self._definition.by_key.get(key)
@@ -213,7 +220,7 @@ class Message(Mapping[Key, Any]):
     @property
     def fields(self) -> tuple[Field, ...]:
         """All fields, in the order of the definition, and then all developer fields."""
-        return tuple(Field(self._block, entry) for entry in self._definition.entries)
+        return tuple(Field(self._block, entry, self._definition) for entry in self._definition.entries)
 
     def as_dict(self) -> dict[str, Value]:
         """Returns the values by their names; where there is none, by `field_N`, or `dev_I_N`, I being the developer

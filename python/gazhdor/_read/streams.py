@@ -33,8 +33,8 @@ class Stream(Generic[Made]):
     """FIT files that come in pieces. It keeps what the next piece needs, and no more for more bytes.
 
     kind   what is made of them: "show", "table" and "to_csv" the text of the functions `show`, `table_text` and
-           `to_csv`, piece by piece; "messages" lists of `Message`, with `only` and `names` as for `messages`; "blocks"
-           the bytes of docs/BLOCKS.md; "check" nothing, an empty str
+           `to_csv`, piece by piece; "messages" lists of `Message`, with `only`, `names` and `words` as for `messages`;
+           "blocks" the bytes of docs/BLOCKS.md; "check" nothing, an empty str
     files  how many files have ended so far
 
     All that `feed` and `finish` return, one after another, is what the function makes of all bytes. Where bytes are
@@ -54,15 +54,20 @@ class Stream(Generic[Made]):
         def __init__(self: "Stream[bytes]", kind: Literal["blocks"]) -> None: ...
         @overload
         def __init__(
-            self: "Stream[list[Message]]", kind: Literal["messages"], only: Only = None, names: Told = None
+            self: "Stream[list[Message]]",
+            kind: Literal["messages"],
+            only: Only = None,
+            names: Told = None,
+            words: bool = False,
         ) -> None: ...
 
-    def __init__(self, kind: str, only: Only = None, names: Told = None) -> None:
+    def __init__(self, kind: str, only: Only = None, names: Told = None, words: bool = False) -> None:
         if kind not in _KINDS:
             raise ValueError(f"a stream is one of {', '.join(_KINDS)}, and not {kind!r}")
-        if (only is not None or names is not None) and kind != "messages":
-            raise TypeError(f"a stream of {kind} has no messages of which there may be only some, or other names")
-        self._make = _maker(kind, only, names)
+        if (only is not None or names is not None or words) and kind != "messages":
+            what = "has no messages of which there may be only some, or other names, or words"
+            raise TypeError(f"a stream of {kind} {what}")
+        self._make = _maker(kind, only, names, words)
         self._lock = threading.RLock()
         # the thread that is in a call, and whether all that was made up to now was returned
         self._user: Optional[int] = None
@@ -169,13 +174,13 @@ def _forked() -> None:
 os.register_at_fork(after_in_child=_forked)
 
 
-def _maker(kind: str, only: Only, names: Told) -> Callable[[bytes], Any]:
+def _maker(kind: str, only: Only, names: Told, words: bool) -> Callable[[bytes], Any]:
     """What makes a kind's result of the bytes of the library."""
     if kind == "blocks":
         return bytes
     if kind != "messages":
         return bytes.decode
-    walk = Walk(only, names_of(names))
+    walk = Walk(only, names_of(names), words)
     return lambda blocks: list(messages_of(blocks, walk.runs(blocks)))
 
 
@@ -230,31 +235,48 @@ if TYPE_CHECKING:
 
     @overload
     def messages(
-        source: Source, only: Only = None, partial: bool = False, names: Told = None, everything: Literal[False] = False
+        source: Source,
+        only: Only = None,
+        partial: bool = False,
+        names: Told = None,
+        everything: Literal[False] = False,
+        words: bool = False,
     ) -> Iterator[Message]: ...
     @overload
     def messages(
-        source: Source, only: None = None, partial: bool = False, names: Told = None, *, everything: Literal[True]
+        source: Source,
+        only: None = None,
+        partial: bool = False,
+        names: Told = None,
+        *,
+        everything: Literal[True],
+        words: bool = False,
     ) -> Iterator[Everything]: ...
 
 
 def messages(
-    source: Source, only: Only = None, partial: bool = False, names: Told = None, everything: bool = False
+    source: Source,
+    only: Only = None,
+    partial: bool = False,
+    names: Told = None,
+    everything: bool = False,
+    words: bool = False,
 ) -> Iterator[Any]:
     """Yields a Message for each data message; with `only`, a name or a number or several of these, for such messages
     alone, and makes nothing of the others. The source is read, piece by piece, as messages are asked for. With
     `partial` a fault is raised after the messages before it, else before the first message, as `Refused` or
     `Truncated`; of a file object that can't go back to where it was, as a pipe, also after those before it. `names` has
-    names, units and scales beside the profile's: a dict, the path of a text, or `Names`. With `everything` it yields in
-    their places what else files have, too: a `FileHeader`, a `DefinitionMessage`, a `FileEnd`."""
+    names, units and scales beside the profile's: a dict, the path of a text, or `Names`. With `words` a number that has
+    a word is that word, as 'cycling' for a sport. With `everything` it yields in their places what else files have,
+    too: a `FileHeader`, a `DefinitionMessage`, a `FileEnd`."""
     if everything:
         if only is not None:
             raise TypeError("everything is all messages, and not only some")
-        events = Events(names_of(names))
+        events = Events(names_of(names), words)
         for blocks in each("blocks", source, partial):
             yield from events.events(blocks)
         return
-    walk = Walk(only, names_of(names))
+    walk = Walk(only, names_of(names), words)
     for blocks in each("blocks", source, partial):
         yield from messages_of(blocks, walk.runs(blocks))
 

@@ -4,7 +4,7 @@ from collections.abc import Callable, Mapping
 from decimal import Decimal
 from typing import Any, NamedTuple, Optional, Union, overload
 
-from .._names import RESERVED, Named, Names
+from .._names import RESERVED, TYPES, Named, Names
 from .._numbers import (
     AT_DEFINITION_FIELDS,
     AT_DEFINITION_MESSAGE,
@@ -22,7 +22,8 @@ from .._numbers import (
     STRING,
     UNSIGNED,
 )
-from .._profile import fields_of
+from .._profile import fields_of, info_of
+from .words import choices, word_reader
 
 Number = Union[int, float]
 Value = Union[int, float, str, bytes, None, tuple[Optional[Number], ...]]
@@ -76,7 +77,8 @@ class Entry:
         self.index: Optional[int] = index if developer else None
         if named is not NOT_NAMED:
             self._rename(named)
-        self.type = named.type if self.kind == UNSIGNED and self.width == 4 and self.count == 1 else None
+        is_time = named.type in TYPES and self.kind == UNSIGNED and self.width == 4 and self.count == 1
+        self.type = named.type if is_time else None
         self.native = native
         self._told = data[at : at + self.size], named, native
         self.read = reader(self)
@@ -118,6 +120,10 @@ class Entry:
         """The letter that `struct` has for an item, of a float that for its bits."""
         code = _UNSIGNED[self.width]
         return code.lower() if self.kind == SIGNED else code
+
+    def raw(self, block: bytes) -> int:
+        """The first item in the block of a message, of a signed number its bits."""
+        return int.from_bytes(block[self.begins : self.begins + self.width], "little")
 
     @property
     def float_code(self) -> str:
@@ -264,28 +270,26 @@ def whole_number(begins: int, width: int, scale: int = 1) -> Entry:
 
 
 Developer = tuple[int, int]
-# The fields of the profile that are times. Field 253 is one in every message.
-_DATE, _LOCAL = "date_time", "local_date_time"
-_TYPES = {0: {4: _DATE}, 18: {2: _DATE}, 19: {2: _DATE}, 34: {5: _LOCAL}}
 _POSITIONS = (("position_lat", "position_long"), ("start_position_lat", "start_position_long"))
 
 
 class Beside(NamedTuple):
     """What is known of a definition but from its block: what the message is called, what is said of its fields, by
-    their numbers, and the numbers of the fields that its developer fields stand for."""
+    their numbers, the numbers of the fields that its developer fields stand for, and whether values are words."""
 
     name: Optional[str] = None
     fields: Mapping[int, Named] = {}
     natives: Mapping[Developer, int] = {}
+    words: bool = False
 
 
 NOTHING = Beside()
 
 
-def told(names: Optional[Names], message: int, natives: Mapping[Developer, int]) -> Beside:
+def told(names: Optional[Names], message: int, natives: Mapping[Developer, int], words: bool = False) -> Beside:
     """What is known of the definitions of a message."""
     name, fields = (names.message(message), names.fields(message)) if names else (None, {})
-    return Beside(name, fields, natives) if name or fields or natives else NOTHING
+    return Beside(name, fields, natives, words) if name or fields or natives or words else NOTHING
 
 
 def developers(data: bytes) -> list[Developer]:
@@ -327,15 +331,23 @@ class Definition:
             # A file may give a developer field a name that means something else. It has its numbers, then.
             if entry.name and (entry.index is None or not RESERVED.fullmatch(entry.name)):
                 self.by_key.setdefault(entry.name, entry)
+        # what is made of it when it is first needed
+        self.made: dict[str, Any] = {}
+        if told.words:
+            self._tell_words()
         self.readers: dict[Any, Reader] = {key: entry.read for key, entry in self.by_key.items()}
         self.keys = self._keys()
         self.labels = {label(key): entry for key, entry in self.keys.items()}
-        # what is made of it when it is first needed
-        self.made: dict[str, Any] = {}
+
+    def _tell_words(self) -> None:
+        """Has the fields that have words read as these."""
+        found = choices(self)
+        for entry in self.entries:
+            if id(entry) in found:
+                entry.read = word_reader(entry, found[id(entry)])
 
     def _entries(self, count: int) -> tuple[Entry, ...]:
-        data, (_, fields, natives) = self.data, self._told
-        types = _TYPES.get(self.number, {})
+        data, fields, natives = self.data, self._told.fields, self._told.natives
         at = first_entry(data)
         entries: list[Entry] = []
         for _ in range(count):
@@ -344,8 +356,9 @@ class Definition:
             if developer:
                 entries.append(Entry(data, at, native=natives.get((index, number))))
             else:
-                named, kind = fields.get(number, NOT_NAMED), _DATE if number == 253 else types.get(number)
-                entries.append(Entry(data, at, named._replace(type=kind) if kind and not named.type else named))
+                named, info = fields.get(number, NOT_NAMED), info_of(self.number, number)
+                is_time = info is not None and info.type in TYPES and not named.type
+                entries.append(Entry(data, at, named._replace(type=info.type) if is_time and info else named))
             at += entries[-1].size
         return tuple(entries)
 
@@ -356,6 +369,15 @@ class Definition:
             if self.by_key[entry.key] is entry:
                 found[entry.name if entry.name and self.by_key.get(entry.name) is entry else entry.key] = entry
         return found
+
+    @property
+    def says_words(self) -> bool:
+        """Whether numbers of its messages are told as words."""
+        return self._told.words
+
+    def named(self, field: int) -> Named:
+        """What the caller says of a field."""
+        return self._told.fields.get(field, NOT_NAMED)
 
     @property
     def position(self) -> Optional[tuple[Entry, Entry]]:

@@ -12,12 +12,14 @@ from .definitions import Kept, definition_block, empty_message
 from .field_shapes import DeveloperField, Shape
 from .item_columns import is_of_numbers, listed, put_column
 from .items import Packer, packers
+from .words import numbered, numbered_columns
 
 if TYPE_CHECKING:
     from .writer import Writer
 
 _OFFSET = ".time_offset"
 _LONE = (int, float, type(None))
+_TEXTS = {str, list, tuple}
 _MOST = 64  # So many layouts are kept, of fields that have now more items and now fewer.
 
 
@@ -59,7 +61,9 @@ class Definition:
         raise KeyError(key)
 
     def _fitted(self, values: Mapping[Any, Any]) -> Mapping[Any, Any]:
-        """The values; the fields get the sizes that they need."""
+        """The values, of words their numbers; the fields get the sizes that they need."""
+        if _TEXTS & set(map(type, values.values())):
+            values = numbered(self._known, values)
         sizes, found = self._sizes, values
         for key, value in values.items():
             if type(value) in _LONE or key == _OFFSET:
@@ -104,7 +108,7 @@ class Definition:
         """Writes a message for each row of columns of one length: lists, arrays of numpy, series of pandas, or whatever
         gives values one after another. None, NaN and NaT stand for no value, as does a field that isn't named. Where
         one of them doesn't fit, none is written."""
-        columns = listed({**({} if __columns is None else __columns), **fields})
+        columns = numbered_columns(self._known, listed({**({} if __columns is None else __columns), **fields}))
         rows = max(map(len, columns.values()), default=0)
         for key, column in columns.items():
             if not is_of_numbers(column):
