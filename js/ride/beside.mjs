@@ -24,7 +24,10 @@ export function besideTable(rides, names, units, away) {
     head.append(element("td"), ...names.map((name, k) => element("th", name, { scope: "col", className: k === 1 ? "second" : "" })))
     const words = rides.map(ride => sportWord(soleSport(ride)))
     const rows = [["Sport", words], ...ROWS.map(([title, name, quantity]) => [title, rides.map((ride, k) => textOf(ride, all[k], name, quantity, units))])]
-    for (const [title, texts] of rows) if (texts.some(text => text !== "")) body.insertRow().append(element("th", title, { scope: "row" }), ...texts.map(text => element("td", text)))
+    for (const [title, texts] of rows) {
+        if (texts.every(text => text === "")) continue
+        body.insertRow().append(element("th", title, { scope: "row" }), ...texts.map(text => element("td", text)))
+    }
     return element("div", undefined, { className: "besides" }, element("h2", "Beside each other"), element("div", undefined, { className: "wide" }, table),
         element("p", undefined, {}, element("button", "Put it away", { type: "button", onclick: away })))
 }

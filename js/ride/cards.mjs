@@ -10,7 +10,7 @@ const MOST_SESSIONS = 20
 /* Values and what they are, as texts, of what a ride, a session or a part has together. */
 export function toldOf(all, sport, units) {
     const { speed, cadence } = mannerOf(sport), told = []
-    const add = (quantity, value, name) => { if (value !== null && value !== undefined && Number.isFinite(value)) told.push([units[quantity].text(value), name]) }
+    const add = (quantity, value, name) => { if (Number.isFinite(value)) told.push([units[quantity].text(value), name]) }
     if (all.distance !== null) add(isSwim(sport) ? "pool" : "distance", all.distance, "distance")
     if (all.time !== null) told.push([duration(all.time), "time"])
     add(speed, all.speed > 0 ? all.speed : null, units[speed].isPace ? "mean pace" : "mean speed")

@@ -11,10 +11,12 @@ const pathOf = part => part.map(({ x, y }, k) => `${k ? "L" : "M"}${x.toFixed(1)
 
 /* Where there are lines along a chart, and their texts. */
 function alongs({ low, high, width }, view, units) {
-    if (view.by === "distance") return units.distance.lines(units.distance.drawn(low), units.distance.drawn(high), width / 90).map(([at, text]) => [(at - units.distance.more) / units.distance.factor, text])
+    const { distance } = units
+    if (view.by === "distance") return distance.lines(distance.drawn(low), distance.drawn(high), width / 90).map(([at, text]) => [at / distance.factor, text])
     if (!view.hasTime) return []
     const step = STEPS.find(one => (high - low) / one <= width / 90) ?? high - low, found = []
-    for (let one = Math.ceil(low / step) * step; one <= high && step > 0 && found.length < 50; one += step) found.push([one, duration(one).replace(/:00$/, "")])
+    for (let one = Math.ceil(low / step) * step; one <= high && step > 0 && found.length < 50; one += step)
+        found.push([one, duration(one).replace(/:00$/, "")])
     return found.filter(([at]) => at > low)
 }
 
@@ -34,7 +36,8 @@ export class Chart {
         Object.assign(this, told, { view, units })
         this.svg = drawing("svg", { role: "slider", tabindex: 0, "aria-label": told.title, "aria-orientation": "horizontal" })
         this.output = element("output", undefined, { ariaLive: "off" }) // The chart itself says it, as its value.
-        this.place = element("div", undefined, { className: "plot", id: told.key }, element("h2", undefined, {}, element("span", told.title), this.output), this.svg)
+        const head = element("h2", undefined, {}, element("span", told.title), this.output)
+        this.place = element("div", undefined, { className: "plot", id: told.key }, head, this.svg)
         this.place.style.setProperty("--of", `var(--${told.colour})`)
     }
 
@@ -69,7 +72,8 @@ export class Chart {
         this.y = one => this.bottom - PAD - share(one) * (this.bottom - 2 * PAD)
         svg.setAttribute("viewBox", `0 0 ${width} ${height}`)
         this.band = drawing("rect", { class: "band", y: 0, height: this.bottom, visibility: "hidden" })
-        svg.replaceChildren(this.band, ...this.#lines(width), ...(isLast ? this.#feet(frame) : []), ...this.#beside(frame), ...this.#line(frame), this.#cross())
+        const feet = isLast ? this.#feet(frame) : []
+        svg.replaceChildren(this.band, ...this.#lines(width), ...feet, ...this.#beside(frame), ...this.#line(frame), this.#cross())
         this.whole = this.#whole(frame)
         this.show(view.here)
         this.light(view.span)
@@ -86,7 +90,8 @@ export class Chart {
     #feet(frame) {
         return alongs(frame, this.view, this.units).flatMap(([at, text]) => {
             const x = frame.left + (at - frame.low) * frame.scale
-            return [drawing("line", { class: "grid", x1: x, x2: x, y1: 0, y2: this.bottom }), drawing("text", { x: Math.min(x, frame.left + frame.width - 12), y: this.bottom + 13, "text-anchor": "middle" }, text)]
+            const place = { x: Math.min(x, frame.left + frame.width - 12), y: this.bottom + 13, "text-anchor": "middle" }
+            return [drawing("line", { class: "grid", x1: x, x2: x, y1: 0, y2: this.bottom }), drawing("text", place, text)]
         })
     }
 
@@ -122,15 +127,22 @@ export class Chart {
     show(k) {
         const { at } = this.frameNow, isTold = k >= 0 && !Number.isNaN(this.column[k]) && !Number.isNaN(at[k])
         this.here.setAttribute("visibility", isTold ? "visible" : "hidden")
-        const where = this.view.by === "distance" ? this.units.distance.text(this.view.points.distance[k]) : this.view.hasTime ? duration(this.view.seconds[k]) : ""
-        this.output.textContent = isTold ? `${where}  ${this.text(this.column[k])}`.trim() : this.whole
-        for (const [name, value] of [["valuemin", this.frameNow.from], ["valuemax", this.frameNow.to], ["valuenow", isTold ? k : this.frameNow.from], ["valuetext", this.output.textContent]])
-            this.svg.setAttribute(`aria-${name}`, value)
+        this.output.textContent = isTold ? `${this.#where(k)}  ${this.text(this.column[k])}`.trim() : this.whole
+        this.#tell({ valuemin: this.frameNow.from, valuemax: this.frameNow.to, valuenow: isTold ? k : this.frameNow.from, valuetext: this.output.textContent })
         if (!isTold) return
         for (const end of ["x1", "x2"]) this.bar.setAttribute(end, at[k])
         this.dot.setAttribute("cx", at[k])
         this.dot.setAttribute("cy", this.y(this.column[k]))
     }
+
+    /* Where a point is along the chart, in words. */
+    #where(k) {
+        if (this.view.by === "distance") return this.units.distance.text(this.view.points.distance[k])
+        return this.view.hasTime ? duration(this.view.seconds[k]) : ""
+    }
+
+    /* What a reader of the screen says of the chart. */
+    #tell(told) { for (const [name, value] of Object.entries(told)) this.svg.setAttribute(`aria-${name}`, value) }
 
     /* Lights up a part, or none. */
     light(span) {

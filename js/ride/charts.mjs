@@ -16,8 +16,9 @@ const COLOURS = ["speed", "heart_rate", "altitude", "power"]
 function chartsOf(ride, units, other, by) {
     const manner = mannerOf(soleSport(ride)), beside = other && besideOf(other.points, by)
     const told = [
-        ["altitude", "Altitude", units.height, true], ["speed", units[manner.speed].isPace ? "Pace" : "Speed", units[manner.speed]], ["heart_rate", "Heart rate", units.heart],
-        ["power", "Power", units.power], ["cadence", "Cadence", units[manner.cadence]], ["temperature", "Temperature", units.temperature],
+        ["altitude", "Altitude", units.height, true], ["speed", units[manner.speed].isPace ? "Pace" : "Speed", units[manner.speed]],
+        ["heart_rate", "Heart rate", units.heart], ["power", "Power", units.power], ["cadence", "Cadence", units[manner.cadence]],
+        ["temperature", "Temperature", units.temperature],
     ].filter(([name]) => ride.points[name] !== undefined).map(([name, title, quantity, filled = false]) => {
         const drawn = column => column.map(value => quantity.drawn(value)), same = other?.points[name]
         return { key: name, colour: name, title, quantity, filled, column: drawn(ride.points[name]), beside: same && { ...beside, column: drawn(same) } }
@@ -37,16 +38,17 @@ function besideOf(points, by) {
 function marked(view, units, sport, save) {
     const place = element("section", undefined, { id: "marked", hidden: true })
     place.setAttribute("aria-live", "polite")
-    const buttons = element("p", undefined, {},
-        element("button", "Zoom in", { type: "button", onclick: () => view.zoom(view.span) }), element("button", "Clear", { type: "button", onclick: () => view.mark(null) }),
-        ...(view.points.latitude === undefined ? [] : [element("button", "Save as GPX", { type: "button", onclick: event => save(event.target, view.span) })]))
+    const button = (text, onclick) => element("button", text, { type: "button", onclick })
+    const buttons = element("p", undefined, {}, button("Zoom in", () => view.zoom(view.span)), button("Clear", () => view.mark(null)))
+    if (view.points.latitude !== undefined) buttons.append(button("Save as GPX", event => save(event.target, view.span)))
     view.on("span", span => {
         place.hidden = span === null
         if (span === null) return
         const all = pointTotals(view.points, span.from, span.to), told = toldOf(all, span.row?.sport ?? sport, units)
         if (all.low !== null) told.push([`${units.height.number(all.low)} to ${units.height.text(all.high)}`, "altitude"])
         if (all.most_power !== null) told.push([units.power.text(all.most_power), "most power"])
-        place.replaceChildren(element("h2", span.title), element("div", undefined, { className: "cards" }, ...told.map(([value, name]) => card(value, name))), buttons)
+        const cards = element("div", undefined, { className: "cards" }, ...told.map(([value, name]) => card(value, name)))
+        place.replaceChildren(element("h2", span.title), cards, buttons)
     })
     return place
 }
@@ -84,7 +86,8 @@ export class Drawn {
 
     /* Puts them on the page. */
     #lay(again) {
-        const column = element("div", undefined, { className: "charts" }, ...this.charts.map(({ place }) => place)), aside = element("div", undefined, { className: "aside" })
+        const column = element("div", undefined, { className: "charts" }, ...this.charts.map(({ place }) => place))
+        const aside = element("div", undefined, { className: "aside" })
         if (this.track !== null) {
             this.colour = colourChoice(this.charts, name => { keep("colour", name); this.draw() })
             this.track.head.append(this.colour)
@@ -107,7 +110,8 @@ export class Drawn {
             byId("drawn").classList.toggle("marking", view.isMarking)
         } })
         finger.setAttribute("aria-pressed", false)
-        tools.append(this.out, finger, element("p", "Drag along a chart to mark a part, double-click to zoom. Keys: arrows, Shift with arrows, Enter, Esc.", { className: "quiet hint" }))
+        const hint = "Drag along a chart to mark a part, double-click to zoom. Keys: arrows, Shift with arrows, Enter, Esc."
+        tools.append(this.out, finger, element("p", hint, { className: "quiet hint" }))
         return tools
     }
 

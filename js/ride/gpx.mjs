@@ -5,7 +5,8 @@ import { PIECE } from "../src/sources.mjs"
 import { Stream } from "../src/streams.mjs"
 
 const HEAD = `<?xml version="1.0" encoding="UTF-8"?>
-<gpx version="1.1" creator="gazhdor ${VERSION}" xmlns="http://www.topografix.com/GPX/1/1" xmlns:gpxtpx="http://www.garmin.com/xmlschemas/TrackPointExtension/v1">
+<gpx version="1.1" creator="gazhdor ${VERSION}" xmlns="http://www.topografix.com/GPX/1/1" \
+xmlns:gpxtpx="http://www.garmin.com/xmlschemas/TrackPointExtension/v1">
 `
 const BEGIN = "<trk><trkseg>\n", END = "</trkseg></trk>\n", FOOT = "</gpx>\n"
 const DECIMAL = /^-?\d+(\.\d+)?$/, TIME = /^\d{4}-\d\d-\d\dT\d\d:\d\d:\d\dZ$/

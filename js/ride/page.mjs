@@ -52,10 +52,11 @@ function markRow(row, title) {
 function render() {
     const units = unitsOf(settings.units === "miles"), { ride, name, other, view: old } = shown, view = shown.view = new View(ride)
     byId("summary").replaceChildren(...summaryOf(ride, units, markRow))
-    const drawn = new Drawn(ride, other?.ride, { view, units, again: (setting, value) => { keep(setting, value); render() }, save: (button, span) => save(button, "gpx", name, span) })
+    const again = (setting, value) => { keep(setting, value); render() }, away = () => { shown.other = null; render() }
+    const drawn = new Drawn(ride, other?.ride, { view, units, again, save: (button, span) => save(button, "gpx", name, span) })
     const curves = efforts(shown, units)
     tables(shown, units, markRow)
-    byId("besides").replaceChildren(...(other ? [besideTable([ride, other.ride], [name, other.name], units, () => { shown.other = null; render() })] : []))
+    byId("besides").replaceChildren(...(other ? [besideTable([ride, other.ride], [name, other.name], units, away)] : []))
     shown.draw = () => { if (byId("drawn").clientHeight > 0) for (const one of [drawn, ...curves]) one.draw() } // while it isn't hidden
     if (old) view.window = old.window
     shown.draw()

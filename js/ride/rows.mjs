@@ -7,7 +7,9 @@ const TOTALS = [
 ]
 /* Fields that the proved profile hasn't, by their numbers and scales as Garmin's public profile has them. */
 const MORE = {
-    session: { lengths: [47, 1], all_lengths: [33, 1], pool_length: [44, 100], stroke: [43, 1], fast_avg: [124, 1000], fast_max: [125, 1000], normalized: [34, 1] },
+    session: {
+        lengths: [47, 1], all_lengths: [33, 1], pool_length: [44, 100], stroke: [43, 1], fast_avg: [124, 1000], fast_max: [125, 1000], normalized: [34, 1],
+    },
     lap: { lengths: [40, 1], all_lengths: [32, 1], stroke: [38, 1], fast_avg: [110, 1000], fast_max: [111, 1000], normalized: [33, 1] },
     length: { elapsed: [3, 1000], timer: [4, 1000], strokes: [5, 1], swum: [6, 1000], stroke: [7, 1], length_type: [12, 1] },
 }

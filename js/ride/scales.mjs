@@ -60,14 +60,15 @@ export function across(xs, { from, to }, left, width) {
     return { at, nearest, low, high, scale, left, width, from, to }
 }
 
-/* The points from one to another that are drawn of a column, as parts that hang together: of those in each column of pixels the first, the least,
- * the greatest and the last. */
+/* The points from one to another that are drawn of a column, as parts that hang together: of those in each column of pixels the first, the
+ * least, the greatest and the last. */
 export function thinned({ at, from, to }, seconds, column) {
     const parts = []
     let part = null, pixel = NaN, before = NaN, first = -1, low = -1, high = -1, last = -1
     const flush = () => {
+        if (first < 0) return
         let before = -1
-        if (first >= 0) for (const k of [first, Math.min(low, high), Math.max(low, high), last]) if (k !== before) part.push({ x: at[before = k], y: column[k] })
+        for (const k of [first, Math.min(low, high), Math.max(low, high), last]) if (k !== before) part.push({ x: at[before = k], y: column[k] })
         first = -1
     }
     for (let k = from; k <= to; k++) {

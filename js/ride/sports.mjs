@@ -11,7 +11,9 @@ export const strokeWord = stroke => (stroke === null ? "" : STROKES[stroke] ?? `
 
 /* Cadence is of one leg, so steps are twice as many. */
 const RUN = { speed: "pace", cadence: "steps" }
-const MANNERS = { 1: RUN, 11: RUN, 17: { speed: "speed", cadence: "steps" }, 5: { speed: "swim", cadence: "strokes" }, 15: { speed: "speed", cadence: "strokes" } }
+const MANNERS = {
+    1: RUN, 11: RUN, 17: { speed: "speed", cadence: "steps" }, 5: { speed: "swim", cadence: "strokes" }, 15: { speed: "speed", cadence: "strokes" },
+}
 
 /* By which quantities speed and cadence are told. */
 export const mannerOf = sport => MANNERS[sport] ?? { speed: "speed", cadence: "rpm" }

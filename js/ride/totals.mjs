@@ -1,7 +1,9 @@
 /* What a ride, a session or a part of the points has together: distance, time, means. */
 import { mean, range } from "./scales.mjs"
 
-const most = column => (column === undefined ? null : Number.isNaN(range(column).high) ? null : range(column).high)
+const orNull = value => (Number.isNaN(value) ? null : value)
+const least = column => (column === undefined ? null : orNull(range(column).low))
+const most = column => (column === undefined ? null : orNull(range(column).high))
 const first = (...values) => values.find(value => value !== null && value !== undefined) ?? null
 const speedOf = (distance, time) => (distance !== null && time > 0 ? distance / time : null)
 
@@ -23,11 +25,11 @@ export function pointTotals(points, from = 0, to = points.length - 1) {
         return high >= low ? (high - low) / scale : null
     }
     const average = name => (points[name] === undefined ? null : mean(part(name)))
-    const distance = across("distance", 1), time = across("time", 1000), altitude = points.altitude === undefined ? null : range(part("altitude"))
+    const distance = across("distance", 1), time = across("time", 1000)
     return {
         start: part("time")?.find(one => !Number.isNaN(one)) ?? null, distance, time, speed: speedOf(distance, time), heart_rate: average("heart_rate"),
         most_heart_rate: most(part("heart_rate")), power: average("power"), most_power: most(part("power")), cadence: average("cadence"),
-        low: altitude === null || Number.isNaN(altitude.low) ? null : altitude.low, high: altitude === null || Number.isNaN(altitude.low) ? null : altitude.high,
+        low: least(part("altitude")), high: most(part("altitude")),
     }
 }
 
@@ -37,9 +39,10 @@ export function rideTotals({ sessions, points, sport }) {
     if (rows.length === 1) return { ...all, ...Object.fromEntries(Object.entries(rows[0]).filter(([, value]) => value !== null)) }
     const sum = name => rows.reduce((sum, one) => (one[name] === null ? sum : (sum ?? 0) + one[name]), null)
     if (rows.length === 0) return { ...all, ascent: null, calories: null, sport }
-    const distance = sum("distance"), time = sum("time")
+    const hearts = rows.map(one => one.most_heart_rate).filter(one => one !== null)
     return {
-        ...all, start: first(rows[0].start, all.start), distance: first(distance, all.distance), time: first(time, all.time), speed: null, cadence: null,
-        ascent: sum("ascent"), calories: sum("calories"), most_heart_rate: first(rows.reduce((high, one) => Math.max(high, one.most_heart_rate ?? 0), 0) || null, all.most_heart_rate),
+        ...all, start: first(rows[0].start, all.start), distance: first(sum("distance"), all.distance), time: first(sum("time"), all.time),
+        speed: null, cadence: null, ascent: sum("ascent"), calories: sum("calories"),
+        most_heart_rate: hearts.length > 0 ? Math.max(...hearts) : all.most_heart_rate,
     }
 }

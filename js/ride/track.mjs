@@ -112,7 +112,8 @@ export class Track {
             return drawing("text", { class: "end", x: xs[k] + (isRight ? -11 : 11), y: ys[k] + 4, "text-anchor": isRight ? "end" : "start" }, word)
         }
         return [
-            drawing("circle", { class: "start", cx: xs[first], cy: ys[first], r: 8 }), drawing("circle", { class: "finish", cx: xs[last], cy: ys[last], r: 4.5 }),
+            drawing("circle", { class: "start", cx: xs[first], cy: ys[first], r: 8 }),
+            drawing("circle", { class: "finish", cx: xs[last], cy: ys[last], r: 4.5 }),
             ...(isNear ? [text(first, "start, end")] : [text(first, "start"), text(last, "end")]),
         ]
     }
@@ -121,7 +122,8 @@ export class Track {
         const round = roundLength(metres * width / 3, this.isMiles)
         if (round === null || !(metres < 1e5)) return []
         const [length, text] = round, x = EDGE / 2, y = height - 6
-        return [drawing("path", { class: "scale", d: `M${x} ${y - 5}v5h${(length / metres).toFixed(1)}v-5` }), drawing("text", { x: x + 4, y: y - 8 }, text)]
+        const bar = `M${x} ${y - 5}v5h${(length / metres).toFixed(1)}v-5`
+        return [drawing("path", { class: "scale", d: bar }), drawing("text", { x: x + 4, y: y - 8 }, text)]
     }
 
     /* What the colours stand for. */

@@ -18,7 +18,8 @@ async function seeGood() {
     for (const chart of ["#altitude", "#speed", "#track"])
         assert.ok(await page.value(`document.querySelector('${chart} .drawn').getAttribute('d').length > 500`), chart)
     assert.match(await page.text("#altitude output"), /^391 to 425 m$/)
-    const { x, y } = await page.value("(({ x, y, width }) => ({ x: x + width / 2, y: y - 10 }))(document.querySelector('#speed .grid').getBoundingClientRect())")
+    const middle = "(({ x, y, width }) => ({ x: x + width / 2, y: y - 10 }))(document.querySelector('#speed .grid').getBoundingClientRect())"
+    const { x, y } = await page.value(middle)
     await page.ask("Input.dispatchMouseEvent", { type: "mouseMoved", x, y })
     await page.until("/^0:05:5\\d +5\\d\\.\\d km.h$/.test(document.querySelector('#speed output').textContent)", 10)
     assert.equal(await page.value("document.querySelectorAll('#tables tbody tr').length"), 1)

@@ -11,7 +11,8 @@ class Recording {
     /* `fields` are [number, base type, name, unit], and those of a developer [number, base type, name, unit, "dev"]. */
     define(local, number, name, fields) {
         const own = fields.filter(field => field[4] === "dev"), others = fields.filter(field => field[4] !== "dev")
-        this.#rows.push(`def,${local},0,little,${number},${others.length},${own.length || ""}`, ...others.map(([field, type]) => `fdef,${field},${SIZES[type]},${type},,,`),
+        this.#rows.push(`def,${local},0,little,${number},${others.length},${own.length || ""}`)
+        this.#rows.push(...others.map(([field, type]) => `fdef,${field},${SIZES[type]},${type},,,`),
             ...own.map(([field, type]) => `ddef,${field},${SIZES[type]},0,,,`))
         this.#known.set(local, { name, fields: [...others, ...own] })
     }
@@ -58,9 +59,9 @@ export function run(gazhdor) {
 
 /* 16 lengths of 25 m, each of 30 s with 18 strokes, so 2:00 for 100 m; the ninth is a rest of 40 s. */
 export function swim(gazhdor) {
-    const made = new Recording(), length = [TIME, [2, 134, "field_2"], [3, 134, "field_3"], [4, 134, "field_4"], [5, 132, "field_5"], [6, 132, "field_6"], [7, 0, "field_7"], [12, 0, "field_12"]]
+    const made = new Recording(), types = [[2, 134], [3, 134], [4, 134], [5, 132], [6, 132], [7, 0], [12, 0]]
     made.define(1, 20, "record", [TIME, [3, 2, "heart_rate", "bpm"], [5, 134, "distance", "m"]])
-    made.define(0, 101, "message_101", length)
+    made.define(0, 101, "message_101", [TIME, ...types.map(([number, type]) => [number, type, `field_${number}`])])
     made.add(1, BEGIN, 110, "0.00")
     for (let k = 0, now = 0; k < 17; k++) {
         const isRest = k === 8, time = isRest ? 40 : 30, begin = now
@@ -120,7 +121,8 @@ export function developer(gazhdor) {
     const made = new Recording()
     made.define(0, 207, "developer_data_id", [[3, 2, "developer_data_index"]])
     made.add(0, 0)
-    made.define(4, 206, "field_description", [[0, 2, "developer_data_index"], [1, 2, "field_definition_number"], [2, 2, "fit_base_type_id"], [3, 7, "field_name"], [8, 7, "units"]])
+    made.define(4, 206, "field_description", [
+        [0, 2, "developer_data_index"], [1, 2, "field_definition_number"], [2, 2, "fit_base_type_id"], [3, 7, "field_name"], [8, 7, "units"]])
     made.add(4, 0, 0, 136, "Core", "C")
     made.add(4, 0, 1, 132, "<i>Form</i>", "W")
     made.define(1, 20, "record", [...RECORD, [2, 132, "altitude", "m"], [0, 136, "Core", "C", "dev"], [1, 132, "<i>Form</i>", "W", "dev"]])
