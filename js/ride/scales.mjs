@@ -54,6 +54,7 @@ export function across(xs, { from, to }, left, width) {
         at[k] = left + (xs[k] - low) * scale
         if (!Number.isNaN(at[k])) nearest[Math.round(at[k] - left)] = k
     }
+    if (!Number.isNaN(at[from])) nearest[Math.round(at[from] - left)] = from // so that both ends can be reached
     let seen = -1
     for (let x = 0; x < nearest.length; x++) if (nearest[x] >= 0) seen = nearest[x]; else nearest[x] = seen
     for (let x = nearest.length - 1; x >= 0; x--) if (nearest[x] >= 0) seen = nearest[x]; else nearest[x] = seen

@@ -5,7 +5,7 @@ import { duration } from "./units.mjs"
 
 const IDLE = 0 // the type of a length in which nobody swam
 
-/* The columns: what a row has there, its head, and its text. Where the sports differ, speeds and cadences have their units beside them. */
+/* The columns: what a row must have there, its head, and its text. Where the sports differ, speeds and cadences have their units beside them. */
 function columnsOf(rows, units, sport, begin) {
     const number = quantity => value => units[quantity].number(value)
     const manner = row => mannerOf(row.sport ?? sport), one = manner(rows[0]), isMixed = new Set(rows.map(row => manner(row).speed)).size > 1
@@ -19,7 +19,7 @@ function columnsOf(rows, units, sport, begin) {
         ["avg_speed", isMixed ? "Speed" : speedHead, told("speed", "avg_speed")],
         ["lengths", "Lengths", row => number("count")(row.lengths)],
         ["total_cycles", "Strokes", row => (isSwim(row.sport ?? sport) ? number("count")(row.total_cycles) : "")],
-        ["stroke", "Stroke", row => (row.length_type === IDLE ? "Rest" : strokeWord(row.stroke))],
+        [null, "Stroke", row => (row.length_type === IDLE ? "Rest" : strokeWord(row.stroke))],
         ["avg_power", "W", row => number("power")(row.avg_power)], ["normalized", "Norm. W", row => number("power")(row.normalized)],
         ["avg_cadence", isMixed ? "Cadence" : units[one.cadence].unit, told("cadence", "avg_cadence")],
         ["max_speed", `Max. ${isMixed ? "speed" : speedHead.toLowerCase()}`, told("speed", "max_speed")],
@@ -28,7 +28,7 @@ function columnsOf(rows, units, sport, begin) {
         ["total_ascent", `Up ${units.height.unit}`, row => number("height")(row.total_ascent)],
         ["total_descent", `Down ${units.height.unit}`, row => number("height")(row.total_descent)],
         ["total_calories", "kcal", row => number("energy")(row.total_calories)],
-    ].map(([name, head, text]) => ({ head, cell: row => (row[name] === null || row[name] === undefined ? "" : text(row)) }))
+    ].map(([name, head, text]) => ({ head, cell: row => (name !== null && (row[name] ?? null) === null ? "" : text(row)) }))
         .map(column => ({ ...column, cells: rows.map(column.cell) })).filter(({ cells }) => cells.some(text => text !== ""))
 }
 

@@ -44,7 +44,7 @@ export function decimal(number, digits) {
 
 /* Some round numbers between two. */
 function rounds(low, high, most) {
-    if (!(low < high)) return [low]
+    if (!(low < high)) return []
     const rough = (high - low) / most, ten = 10 ** Math.floor(Math.log10(rough))
     const step = [1, 2, 5, 10].map(one => one * ten).find(one => one >= rough) ?? rough, found = []
     for (let one = Math.ceil(low / step) * step; one <= high && found.length <= 2 * most; one += step) found.push(Number(one.toPrecision(10)))
@@ -77,8 +77,8 @@ class Quantity {
 
     /* Where a chart from one drawn number to another has lines, and their texts. */
     lines(low, high, most = 4) {
-        if (!this.isPace) return rounds(low, high, most).map(at => [at, lineText(at)])
         if (low === high) return [[low, this.label(low)]]
+        if (!this.isPace) return rounds(low, high, most).map(at => [at, lineText(at)])
         const all = PACES.map(pace => this.factor / pace).filter(speed => speed >= low && speed <= high)
         return apart(all, low, high, most).map(at => [at, this.label(at)])
     }
