@@ -1,247 +1,147 @@
-/* The page: hands files to the Worker, and shows what that found. Whatever is from the file is set as text. */
-import { draw, duration, elapsed, range } from "./draw.mjs"
+/* The page: hands files to the Worker, and shows what that found. */
+import { besideTable } from "./beside.mjs"
+import { summaryOf } from "./cards.mjs"
+import { Drawn } from "./charts.mjs"
+import { Curve, zonesOf } from "./effort_charts.mjs"
+import { byId, element } from "./element.mjs"
+import { say, sayFound, sayReading } from "./finding.mjs"
+import { GivenUp, ask, isBusy, start } from "./link.mjs"
+import { save } from "./saving.mjs"
+import { keep, readSettings, settings } from "./settings.mjs"
+import { soleSport } from "./sports.mjs"
+import { tableOf } from "./tables.mjs"
+import { rideTotals } from "./totals.mjs"
+import { unitsOf } from "./units.mjs"
+import { View } from "./view.mjs"
 
-const $ = id => document.getElementById(id)
+let shown = null // the ride, its name, the ride beside it, and how it is drawn
+let turn = 0 // the number of the file that was taken last: what belongs to an older one says nothing
 
-// ---- the Worker
+const state = word => { document.body.dataset.state = word }
 
-let worker, number = 0
-const waiting = new Map()
-const module = Uint8Array.from(atob($("module").textContent), letter => letter.charCodeAt(0))
+/* ---- what is shown of a ride */
 
-/* Starts a Worker anew; what the one before had to do is given up. */
-function start() {
-    worker?.terminate()
-    for (const { failed } of waiting.values()) failed(new Error("stopped"))
-    waiting.clear()
-    const url = URL.createObjectURL(new Blob([$("reader").textContent], { type: "text/javascript" }))
-    worker = new Worker(url)
-    URL.revokeObjectURL(url)
-    worker.onmessage = ({ data }) => {
-        const { done, failed } = waiting.get(data.number)
-        waiting.delete(data.number)
-        data.error === undefined ? done(data.made) : failed(new Error(data.error))
-    }
-    worker.onerror = event => {
-        for (const { failed } of waiting.values()) failed(new Error(event.message || "this browser can't run the module"))
-        waiting.clear()
-    }
-    ask("module", module).catch(error => say("bad", `This browser can't run the module: ${error.message}`))
+function tables({ ride, view }, units, mark) {
+    const begin = rideTotals(ride).start, sport = soleSport(ride), how = { units, sport, begin, mark }
+    const all = [["Session", ride.sessions.length > 1 ? ride.sessions : []], ["Lap", ride.laps], ["Length", ride.lengths]]
+    byId("tables").replaceChildren(...all.filter(([, rows]) => rows.length > 0).map(([word, rows]) => tableOf(word, rows, how)))
+    const told = ride.counts.slice(0, 100).map(([message, count]) => `${count.toLocaleString("en")} ${message}`)
+    byId("counts").replaceChildren(element("h2", "Messages"), element("p", told.join(" · "), { className: "quiet" }))
+    view.on("span", span => { for (const line of document.querySelectorAll("#tables tr")) line.classList.toggle("lit", span !== null && span.row !== null && line.row === span.row) })
 }
 
-function ask(call, data, memory = []) {
-    return new Promise((done, failed) => {
-        waiting.set(++number, { done, failed })
-        worker.postMessage({ number, call, data }, memory)
-    })
+function efforts({ ride: { points } }, units) {
+    const { seconds } = shown.view, parts = [], curve = points.power === undefined || points.time === undefined ? null : new Curve(seconds, points.power, units)
+    if (curve !== null && curve.points.length > 1) parts.push(curve.place)
+    for (const [kind, column] of [["power", "power"], ["heart", "heart_rate"]])
+        if (points[column] !== undefined && points.time !== undefined) parts.push(zonesOf(kind, points, seconds, settings[kind], text => keep(kind, text)))
+    byId("efforts").replaceChildren(...parts)
+    return curve !== null && curve.points.length > 1 ? [curve] : []
 }
 
-// ---- what is shown
-
-function element(name, text, more = {}) {
-    return Object.assign(document.createElement(name), text === undefined ? {} : { textContent: text }, more)
+/* Marks the points of a session, a lap or a length, and shows them. */
+function markRow(row, title) {
+    const { view } = shown, end = row.total_elapsed_time >= 0 && row.start !== null ? row.start + 1000 * row.total_elapsed_time : row.end
+    const found = view.between(row.start, row.end === null ? end : Math.min(end, row.end))
+    if (found === null) return view.mark(null)
+    view.mark(found.from, found.to, { title, row })
+    byId("drawn").scrollIntoView({ block: "start", behavior: matchMedia("(prefers-reduced-motion: reduce)").matches ? "auto" : "smooth" })
 }
 
-function say(kind, text, more, ...others) {
-    $("finding").className = kind
-    $("finding").hidden = false
-    $("finding").replaceChildren(element("b", text), ...(more ? [element("p", more, { className: "quiet" })] : []), ...others)
+/* Shows the ride anew, as after other units were chosen; what is marked and zoomed stays. */
+function render() {
+    const units = unitsOf(settings.units === "miles"), { ride, name, other, view: old } = shown, view = shown.view = new View(ride)
+    byId("summary").replaceChildren(...summaryOf(ride, units, markRow))
+    const again = (setting, value) => { keep(setting, value); render() }, away = () => { shown.other = null; render() }
+    const drawn = new Drawn(ride, other?.ride, { view, units, again, save: (button, span) => save(button, "gpx", name, span) })
+    const curves = efforts(shown, units)
+    tables(shown, units, markRow)
+    byId("besides").replaceChildren(...(other ? [besideTable([ride, other.ride], [name, other.name], units, away)] : []))
+    shown.draw = () => { if (byId("drawn").clientHeight > 0) for (const one of [drawn, ...curves]) one.draw() } // while it isn't hidden
+    if (old) view.window = old.window
+    shown.draw()
+    if (old?.span) view.mark(old.span.from, old.span.to, old.span)
 }
 
-const kilo = one => (one / 1000).toFixed(2)
-const whole = one => one.toFixed(0)
-const hourly = one => (one * 3.6).toFixed(1)
-const DAY = { day: "numeric", month: "short", year: "numeric" }, HOUR = { hour: "2-digit", minute: "2-digit" }
-const SPORTS = {
-    1: "Running", 2: "Cycling", 3: "Transition", 4: "Fitness equipment", 5: "Swimming", 10: "Training", 11: "Walking", 12: "Cross-country skiing",
-    13: "Alpine skiing", 14: "Snowboarding", 15: "Rowing", 16: "Mountaineering", 17: "Hiking", 18: "Multisport", 19: "Paddling", 21: "E-biking",
-}
-const COLUMNS = [
-    ["start", "Start", one => new Date(one).toLocaleString()], ["sport", "Sport", one => SPORTS[one] ?? `sport ${one}`], ["total_distance", "km", kilo],
-    ["total_timer_time", "Time", duration], ["total_elapsed_time", "With pauses", duration], ["avg_speed", "km/h", hourly],
-    ["max_speed", "Max. km/h", hourly], ["avg_heart_rate", "bpm", whole], ["max_heart_rate", "Max. bpm", whole],
-    ["avg_cadence", "rpm", whole], ["avg_power", "W", whole], ["max_power", "Max. W", whole], ["total_ascent", "Up m", whole],
-    ["total_descent", "Down m", whole], ["total_calories", "kcal", whole],
-]
-
-function tableOf(title, rows) {
-    const columns = COLUMNS.filter(([name]) => rows.some(row => row[name] !== null))
-    const place = element("div"), wide = element("div", undefined, { className: "wide" }), table = element("table")
-    const head = table.createTHead().insertRow(), body = table.createTBody()
-    for (const cell of ["", ...columns.map(([, name]) => name)]) head.append(element("th", cell))
-    rows.forEach((row, k) => {
-        const line = body.insertRow()
-        line.insertCell().textContent = k + 1
-        for (const [name, , text] of columns) line.insertCell().textContent = row[name] === null ? "" : text(row[name])
-    })
-    wide.append(table)
-    place.append(element("h2", title), wide)
-    return place
-}
-
-/* What all sessions have together; where there is none, what the points say. */
-function totalsOf({ sessions, points }) {
-    const sum = name => sessions.reduce((all, one) => (one[name] === null ? all : (all ?? 0) + one[name]), null)
-    const most = name => sessions.reduce((all, one) => (one[name] === null || one[name] < all ? all : one[name]), null)
-    const span = (column, scale) => (column === undefined ? null : (range(column).high - range(column).low) / scale)
-    const mean = column => {
-        const told = column?.filter(one => !Number.isNaN(one)) ?? []
-        return told.length ? told.reduce((all, one) => all + one, 0) / told.length : null
-    }
-    const distance = sum("total_distance") ?? span(points.distance, 1), time = sum("total_timer_time") ?? sum("total_elapsed_time") ?? span(points.time, 1000)
-    const one = name => (sessions.length === 1 ? sessions[0][name] : null)
-    return {
-        distance, time, speed: distance !== null && time > 0 ? distance / time : null, ascent: sum("total_ascent"), calories: sum("total_calories"),
-        heart_rate: one("avg_heart_rate") ?? mean(points.heart_rate),
-        most: most("max_heart_rate") ?? (points.heart_rate ? range(points.heart_rate).high : null),
-        power: one("avg_power") ?? mean(points.power), start: sessions[0]?.start ?? points.time?.find(moment => !Number.isNaN(moment)) ?? null,
-    }
-}
-
-function cards(ride) {
-    const all = totalsOf(ride), sport = SPORTS[ride.sessions[0]?.sport] ?? "Start", start = all.start === null ? null : new Date(all.start)
-    const text = (value, unit, shown = whole) => (value === null ? undefined : `${shown(value)}${unit}`)
-    const told = [
-        [start?.toLocaleDateString(undefined, DAY), `${sport}, ${start?.toLocaleTimeString(undefined, HOUR)}`],
-        [text(all.distance, " km", kilo), "distance"], [text(all.time, "", duration), "time"], [text(all.speed, " km/h", hourly), "mean speed"],
-        [text(all.ascent, " m"), "ascent"],
-        [text(all.heart_rate, " bpm"), all.most === null ? "mean heart rate" : `mean heart rate, at most ${whole(all.most)}`],
-        [text(all.power, " W"), "mean power"], [text(all.calories, " kcal"), "energy"],
-    ].filter(([value]) => value !== undefined)
-    $("summary").replaceChildren(...told.map(([value, name]) => {
-        const card = element("div", undefined, { className: "card" })
-        card.append(element("b", value), element("small", name))
-        return card
-    }))
-}
-
-// ---- charts
-
-const CHARTS = [
-    { name: "altitude", title: "Altitude", unit: "m", factor: 1, digits: 0, filled: true },
-    { name: "speed", title: "Speed", unit: "km/h", factor: 3.6, digits: 1 },
-    { name: "heart_rate", title: "Heart rate", unit: "bpm", factor: 1, digits: 0 },
-    { name: "power", title: "Power", unit: "W", factor: 1, digits: 0 },
-    { name: "cadence", title: "Cadence", unit: "rpm", factor: 1, digits: 0 },
-    { name: "temperature", title: "Temperature", unit: "°C", factor: 1, digits: 0 },
-]
-let redraw = () => {}
-
-function plot(name, title) {
-    const place = element("div", undefined, { className: name === "track" ? "plot track" : "plot", id: name })
-    const head = element("h2"), svg = document.createElementNS("http://www.w3.org/2000/svg", "svg")
-    head.append(element("span", title), document.createElement("output"))
-    svg.setAttribute("role", "img")
-    place.style.setProperty("--of", `var(--${name === "track" ? "strong" : name})`)
-    place.append(head, svg)
-    return place
-}
-
-function charts({ points }) {
-    const seconds = elapsed(points)
-    const all = CHARTS.filter(({ name }) => points[name] !== undefined).map(one => ({ ...one, column: points[one.name].map(value => value * one.factor) }))
-    const isTracked = points.latitude !== undefined && points.longitude !== undefined
-    const places = { charts: all.map(({ name, title }) => plot(name, title)), track: isTracked ? plot("track", "Track") : undefined }
-    const column = element("div", undefined, { className: "charts" })
-    column.append(...places.charts)
-    $("drawn").replaceChildren(...(isTracked ? [places.track] : []), ...(all.length ? [column] : []))
-    $("drawn").classList.toggle("tracked", isTracked && all.length > 0)
-    $("drawn").style.setProperty("--plots", all.length)
-    redraw = () => draw(places, all, points, seconds)
-    redraw()
-}
-
-let width = 0
-new ResizeObserver(() => {
-    if (document.body.clientWidth !== width) redraw()
-    width = document.body.clientWidth
-}).observe(document.body)
-
-// ---- a file
-
-/* What a fault mostly comes from. */
-const ADVICE = {
-    HeaderSize: "No FIT file begins there; before that place there may be good ones.",
-    Protocol: "This is most likely no FIT file.",
-    Signature: "This is most likely no FIT file.",
-    HeaderSum: "Some bytes of the header have changed, or the recording was never closed.",
-    FileSum: "Some bytes have changed, or the recording was never closed.",
-    Truncated: "The recording or its copy was cut.",
-    Other: "Some bytes before that place have changed or are missing.",
-}
-
-function adviceOf({ place, reason, explanation }, isShown, took) {
-    const advice = reason === null ? (place > 0 ? ADVICE.Truncated : "") : ADVICE[reason] ?? ADVICE.Other
-    return [explanation, advice, isShown ? `What comes before that is shown (${took}).` : ""].filter(text => text).join(" ")
-}
-
-let name = "ride", began
-
-function found({ finding, size, counts }) {
-    const took = `${size.toLocaleString()} bytes, read in ${Math.max(1, Math.round(performance.now() - began))} ms`
-    if (finding.good) say("good", `${name}: a good FIT file${finding.files > 1 ? `, of ${finding.files} files in a row` : ""}`, took)
-    else say("bad", `${name}: ${finding.text}`, adviceOf(finding, counts.length > 0, took))
-}
-
-function show(ride) {
-    found(ride)
-    const rows = ride.points.length + ride.sessions.length + ride.laps.length
-    $("shown").hidden = ride.counts.length === 0
-    $("saved").textContent = ""
-    $("mended").hidden = ride.finding.good
+function show(name, ride) {
+    shown = { name, ride, other: null }
+    const { points } = ride
+    byId("shown").hidden = ride.counts.length === 0
+    byId("saved").textContent = ""
+    byId("mended").hidden = ride.finding.good
+    byId("gpx").hidden = byId("placeless").hidden = points.latitude === undefined
     document.body.classList.add("loaded")
-    cards(ride)
-    const tables = [["Sessions", ride.sessions], ["Laps", ride.laps]].filter(([, all]) => all.length)
-    $("tables").replaceChildren(...tables.map(([title, all]) => tableOf(title, all)))
-    const many = ride.counts.reduce((all, [, count]) => all + count, 0)
-    const kinds = ride.counts.slice(0, 100).map(([kind, count]) => `${count.toLocaleString()} ${kind}`).join(", ")
-    $("counts").replaceChildren(element("h2", `${many.toLocaleString()} messages`), element("p", ride.counts.length > 100 ? `${kinds}, ..` : kinds))
-    charts(rows ? ride : { points: { length: 0 } })
-    document.body.dataset.state = "shown"
+    const rows = points.length + ride.sessions.length + ride.laps.length
+    for (const part of ["drawn", "efforts", "tables", "summary"]) byId(part).hidden = rows === 0
+    render()
 }
 
-async function taken(file) {
-    name = file.name
-    began = performance.now()
-    document.body.dataset.state = "reading"
-    $("shown").hidden = true
-    if (waiting.size) start()
-    const stop = element("button", "Stop", { onclick: start })
-    say("", `${name}: is read`, "", stop)
+/* ---- files */
+
+/* Takes a file: reads it, and shows it, beside the one that is shown where that is asked for. `bytesOf` gives its bytes. */
+async function taken(name, bytesOf, call = "ride") {
+    const mine = ++turn, began = performance.now(), isMine = () => mine === turn
+    state("reading")
+    if (call === "ride") byId("shown").hidden = true
+    if (isBusy()) restart()
+    const move = sayReading(name, () => { turn++; restart(); say("", `${name}: stopped`); state("failed") })
     try {
-        const data = await file.arrayBuffer()
-        show(await ask("ride", data, [data]))
+        const data = await bytesOf()
+        if (!isMine()) return
+        const ride = await ask(call, data, { memory: [data], tell: done => { if (isMine()) move(done) } })
+        if (!isMine()) return
+        sayFound(name, ride, performance.now() - began)
+        if (call === "ride") show(name, ride)
+        else if (ride.counts.length > 0) {
+            shown.other = { name, ride }
+            render()
+        }
+        state("shown")
     } catch (error) {
+        if (!isMine() || error instanceof GivenUp) return
         say("bad", `${name}: not read: ${error.message}`)
-        document.body.dataset.state = "failed"
+        state("failed")
     }
 }
 
-async function save(button) {
-    button.disabled = true
-    $("saved").textContent = ""
-    try {
-        const bytes = await ask(button.dataset.call)
-        const href = URL.createObjectURL(new Blob([bytes], { type: button.dataset.type }))
-        const link = element("a", undefined, { href, download: name.replace(/\.fit$/i, "") + button.dataset.ending })
-        link.click()
-        setTimeout(() => URL.revokeObjectURL(href), 60000)
-        $("saved").textContent = `${link.download}: ${bytes.length.toLocaleString()} bytes`
-    } catch (error) {
-        $("saved").textContent = `Not saved: ${error.message}`
-    }
-    button.disabled = false
+const restart = () => start(error => say("bad", `This browser can't run the module: ${error.message}`))
+
+/* Takes the files that were chosen or dropped: the first, and a second one beside it. */
+async function takeAll(files, call) {
+    const [first, second] = files
+    if (first !== undefined) await taken(first.name, () => first.arrayBuffer(), call)
+    if (second !== undefined && call === "ride" && shown?.name === first.name) await taken(second.name, () => second.arrayBuffer(), "beside")
 }
 
-start()
-for (const button of document.querySelectorAll("#save button")) button.onclick = () => save(button)
-$("file").onchange = event => { if (event.target.files.length) taken(event.target.files[0]) }
-const drop = $("drop")
-document.ondragover = event => { event.preventDefault(); drop.classList.add("over") }
-document.ondragleave = () => drop.classList.remove("over")
-document.ondrop = event => {
-    event.preventDefault()
-    drop.classList.remove("over")
-    if (event.dataTransfer.files.length) taken(event.dataTransfer.files[0])
+/* An input that can choose the same file once more. */
+function chooses(input, call) {
+    input.onchange = () => {
+        const files = [...input.files]
+        input.value = ""
+        takeAll(files, call)
+    }
 }
-document.body.dataset.state = "ready"
+
+function listen() {
+    for (const button of document.querySelectorAll("#save button")) button.onclick = () => save(button, button.id, shown.name)
+    chooses(byId("file"), "ride")
+    chooses(byId("other"), "beside")
+    byId("example").onclick = async () => taken("example.fit", async () => (await ask("example")).buffer)
+    document.ondragover = event => { event.preventDefault(); byId("drop").classList.add("over") }
+    document.ondragleave = () => byId("drop").classList.remove("over")
+    document.ondrop = event => {
+        event.preventDefault()
+        byId("drop").classList.remove("over")
+        takeAll([...event.dataTransfer.files], "ride")
+    }
+    let width = 0
+    new ResizeObserver(() => {
+        if (document.body.clientWidth !== width) shown?.draw?.()
+        width = document.body.clientWidth
+    }).observe(document.body)
+}
+
+readSettings()
+restart()
+listen()
+state("ready")

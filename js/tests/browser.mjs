@@ -100,9 +100,9 @@ export class Page {
     }
 
     /* Hands the page a file, as a user does, and waits until it is shown, or isn't. */
-    async give(path) {
+    async give(path, input = "#file") {
         const { root } = await this.ask("DOM.getDocument")
-        const { nodeId } = await this.ask("DOM.querySelector", { nodeId: root.nodeId, selector: "#file" })
+        const { nodeId } = await this.ask("DOM.querySelector", { nodeId: root.nodeId, selector: input })
         await this.value("document.body.dataset.state = 'waiting'")
         await this.ask("DOM.setFileInputFiles", { nodeId, files: [path] })
         await this.until("['shown', 'failed'].includes(document.body.dataset.state)")

@@ -1,46 +1,13 @@
 /* What docs/ride.html must show in Chromium, of a good file, a cut one and hostile ones, and that nothing goes to a network. */
 import assert from "node:assert/strict"
 import { spawnSync } from "node:child_process"
-import { existsSync, readFileSync, writeFileSync } from "node:fs"
+import { existsSync, readFileSync } from "node:fs"
 import { createServer } from "node:http"
 import { extname, join } from "node:path"
-import { after, test } from "node:test"
-import { open } from "../gazhdor.mjs"
-import { Browser, Page } from "./browser.mjs"
-import { RIDE, folder, inTree, needs, program } from "./tools.mjs"
-
-const BROWSERS = ["chromium", "chromium-browser", "google-chrome"]
-const URL_OF_PAGE = new URL("../../docs/ride.html", import.meta.url).href
-const gazhdor = await open()
-const place = folder()
-const chromium = program(...BROWSERS)
-const browser = chromium === undefined ? null : new Browser(chromium)
-if (browser !== null) {
-    await browser.ask("Browser.setDownloadBehavior", { behavior: "allow", downloadPath: place })
-    after(() => browser.close())
-}
-
-/* Lays a file down under a name, for the page to be given. */
-function laid(name, bytes) {
-    const path = join(place, name)
-    writeFileSync(path, bytes)
-    return path
-}
-
-/* Presses a button of the page, and returns the bytes that it saves. */
-async function saved(page, call, name) {
-    await page.value(`document.querySelector('[data-call=${call}]').click()`)
-    await page.until("document.querySelector('#saved').textContent !== ''")
-    assert.ok((await page.text("#saved")).startsWith(`${name}: `), await page.text("#saved"))
-    for (let k = 0; k < 100 && !existsSync(join(place, name)); k++) await new Promise(wait => setTimeout(wait, 50))
-    return readFileSync(join(place, name))
-}
-
-/* The page asked for nothing but itself, and no script failed. */
-function seeQuiet(page) {
-    assert.deepEqual(page.faults, [])
-    assert.deepEqual(page.requests.filter(url => !/^(file|data|blob):/.test(url)), [])
-}
+import { test } from "node:test"
+import { Page } from "./browser.mjs"
+import { URL_OF_PAGE, browser, gazhdor, how, laid, place, saved, seeQuiet } from "./page_tools.mjs"
+import { RIDE, inTree, needs } from "./tools.mjs"
 
 async function seeGood() {
     const page = await Page.open(browser, URL_OF_PAGE)
@@ -51,7 +18,8 @@ async function seeGood() {
     for (const chart of ["#altitude", "#speed", "#track"])
         assert.ok(await page.value(`document.querySelector('${chart} .drawn').getAttribute('d').length > 500`), chart)
     assert.match(await page.text("#altitude output"), /^391 to 425 m$/)
-    const { x, y } = await page.value("(({ x, y, width }) => ({ x: x + width / 2, y: y + 40 }))(document.querySelector('#speed svg').getBoundingClientRect())")
+    const middle = "(({ x, y, width }) => ({ x: x + width / 2, y: y - 10 }))(document.querySelector('#speed .grid').getBoundingClientRect())"
+    const { x, y } = await page.value(middle)
     await page.ask("Input.dispatchMouseEvent", { type: "mouseMoved", x, y })
     await page.until("/^0:05:5\\d +5\\d\\.\\d km.h$/.test(document.querySelector('#speed output').textContent)", 10)
     assert.equal(await page.value("document.querySelectorAll('#tables tbody tr').length"), 1)
@@ -184,8 +152,6 @@ test("the page is of these files", needs("python3"), () => {
     const { status, stderr } = spawnSync(inTree("js/page"), ["--check"])
     assert.equal(status, 0, String(stderr))
 })
-// A browser that ends early, or a page that is not there, would be waited for.
-const how = { ...needs(...BROWSERS), timeout: 300000 }
 test("a good file", how, seeGood)
 test("cut files, a mended one, and what is none", how, seeCut)
 test("hostile files", how, seeHostile)
