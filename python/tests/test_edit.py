@@ -100,7 +100,8 @@ class Edit(unittest.TestCase):
         command("edit", "--from", "2026-05-17T09:35:00+02:00", "--to", str(end), "--shift", "60", RIDE, at("out.fit"))
         wanted = [row for row in gazhdor.table(RIDE) if begin <= (row.timestamp - EPOCH).total_seconds() <= end]
         found = list(gazhdor.table(at("out.fit")))
-        self.assertEqual(found, [row._replace(timestamp=row.timestamp + datetime.timedelta(0, 60)) for row in wanted])
+        self.assertEqual(found, [row._replace(timestamp=row.timestamp + datetime.timedelta(0, 60),
+            distance=round(row.distance - wanted[0].distance, 2)) for row in wanted])
         (lap,), (session,), (activity,) = (list(gazhdor.messages(at("out.fit"), only=name)) for name in SUMMARIES)
         for whole in (lap, session):
             self.assertEqual((whole["start_time"], whole["timestamp"], whole["total_elapsed_time"],

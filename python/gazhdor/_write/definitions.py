@@ -39,6 +39,7 @@ _NO_INFO = Info("", "", 1, 0, "")
 END = struct.pack("<IB", LEAST_BLOCK, FILE_END).ljust(LEAST_BLOCK, b"\0")
 KINDS = ("none", "zeros", "there")
 _MOST_KNOWN = 1 << 20  # So many bytes of definitions are kept.
+_MOST_LETTERS = 1 << 12
 _USUAL = 128  # An entry with a name and a unit has fewer bytes, unless somebody wants it to have many.
 
 
@@ -84,7 +85,8 @@ def filled(data: bytes) -> bytes:
 
 
 def _text(words: str) -> bytes:
-    return filled(words.encode("utf-8", "replace") + b"\0")
+    # No file has names, so one that is longer than an entry may be is cut.
+    return filled(words[:_MOST_LETTERS].encode("utf-8", "replace") + b"\0")
 
 
 def header_block(size: int, protocol: int, profile: int, kind: int, more: bytes) -> bytes:

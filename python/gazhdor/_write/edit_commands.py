@@ -5,7 +5,8 @@ from collections.abc import Iterator
 from typing import Any, NamedTuple
 
 from ..errors import FitError
-from .edits import Change, edit, join, time_of
+from .edits import Change, edit, time_of
+from .joins import join
 
 COMMANDS = ("edit", "join")
 USAGE = """       python3 -m gazhdor edit [--drop FIELD].. [--shift SECONDS] [--from TIME] [--to TIME] IN OUT

@@ -1,31 +1,27 @@
-"""Changes of whole files: fields emptied, times moved, a part cut out, files joined."""
+"""Changes of whole files: fields emptied, times moved, a part cut out."""
 import datetime
 import re
-from collections.abc import Iterable, Iterator
 from typing import NamedTuple, Optional
 
-from .._base_types import base_named
 from .._names import EXTRA
 from .._numbers import AT_MESSAGE_BITS, AT_MESSAGE_OFFSET, NO_TIME, TOLD_HEADER_TIME, TOLD_TIME
-from .._profile import UnknownName, number_of, profile
-from .._read.events import Everything, FileEnd, FileHeader
+from .._profile import UnknownName, fields_of, number_of, profile
+from .._read.events import FileEnd
 from .._read.messages import Message
 from .._read.streams import messages
 from .._read.values import Definition, Entry
-from .._sources import Source
+from .._sources import Source, bytes_of
 from .._times import EPOCH, HEADER_TIME, OWN_TIME, SYSTEM_TIMES
 from ..errors import WrongValue
+from .cuts import Cut, Span
 from .items import Packer
+from .places import is_place
 from .sinks import Sink
-from .summaries import RECORD, Anew
+from .summaries import Anew
 from .writer import Writer
 
 _POSITION = "position"
-_NAMED = re.compile(r"(^|[^a-z])(position|pos|location|gps|geo|lat|latitude|long|lon|lng|longitude)([^a-z]|$)", re.I)
-_MEASURED = {"semicircles", "semicircle", "deg", "degree", "degrees", "\u00b0"}
-_FILE_ID = (0, 49)  # file_id, file_creator
-_DISTANCE = 5
-_SINT32 = base_named("sint32").code
+_TIMES = ("timestamp", "start_time", "local_timestamp")
 
 
 class Change(NamedTuple):
@@ -42,24 +38,22 @@ class Change(NamedTuple):
         return self.begin is not None or self.end is not None
 
 
-def is_place(entry: Entry) -> bool:
-    """Whether a field may have a place: a whole number of 32 bits with a sign, whatever it is called, as latitudes and
-    longitudes are kept, also by the code that some devices write for it, without its highest bit; or one that is named
-    or measured as a place."""
-    is_signed = entry.base & 0x1F == _SINT32 & 0x1F
-    return is_signed or bool(entry.name and _NAMED.search(entry.name)) or (entry.unit or "").lower() in _MEASURED
+class _Named(NamedTuple):
+    """What may name a field: the name and number of its message, and its own."""
 
+    message: Optional[str]
+    message_number: int
+    field: Optional[str]
+    number: Optional[int]
 
-def _is_of(word: str, definition: Definition, entry: Entry) -> bool:
-    """Whether a field is what a word names: `position`, FIELD, or MESSAGE.FIELD, each a name or a number."""
-    if word == _POSITION:
-        return is_place(entry)
-    if word == entry.name:
-        return True
-    message, _, field = word.rpartition(".")
-    if message and message not in (definition.name, str(definition.number)):
-        return False
-    return field == entry.name or field == str(entry.number) and entry.index is None
+    def is_of(self, word: str) -> bool:
+        """Whether a word names it: FIELD, or MESSAGE.FIELD, each a name or a number."""
+        if word == self.field:
+            return True
+        message, _, field = word.rpartition(".")
+        if message and message not in (self.message, str(self.message_number)):
+            return False
+        return field == self.field or self.number is not None and field == str(self.number)
 
 
 def _known_names() -> set[str]:
@@ -90,9 +84,7 @@ class _Editor:
         if of is not self:
             dropped: list[tuple[str, Packer]] = []
             for entry in definition.entries:
-                words = [word for word in self._change.drop if _is_of(word, definition, entry)]
-                self._met.update(words)
-                if words:
+                if self._drops(definition, entry):
                     pack = Packer(entry)
                     dropped.append((pack.label, pack))
             times = [Packer(entry) for entry in definition.entries if entry.type and not entry.is_scaled]
@@ -100,6 +92,26 @@ class _Editor:
             definition.made["edit"] = self, plan
         found: _Plan = plan
         return found
+
+    def _drops(self, definition: Definition, entry: Entry) -> bool:
+        number = entry.number if entry.index is None else None
+        named = _Named(definition.name, definition.number, entry.name, number)
+        words = {word for word in self._change.drop if named.is_of(word)}
+        if _POSITION in self._change.drop and is_place(definition.number, entry):
+            words.add(_POSITION)
+        self._met |= words
+        return bool(words)
+
+    def anew(self, made: Anew) -> Anew:
+        """A message that was made anew, of records whose fields are emptied. Its own are left out, and its times
+        moved."""
+        number = profile()[made.message].number
+        fields = fields_of(number)
+        named = ((name, _Named(made.message, number, name, fields[name])) for name in made.values)
+        stay = [name for name, told in named if not any(map(told.is_of, self._change.drop))]
+        shift = self._change.shift
+        times = {name: _later(made.values[name], shift, name) for name in _TIMES if name in stay}
+        return Anew(made.message, {**{name: made.values[name] for name in stay}, **times})
 
     def changed(self, message: Message) -> Message:
         definition = message._definition
@@ -135,84 +147,42 @@ class _Editor:
 
 
 def _moved(item: bytearray, shift: int, field: str) -> bytes:
+    return _later(int.from_bytes(item, "little"), shift, field).to_bytes(4, "little")
+
+
+def _later(time: int, shift: int, field: str) -> int:
     """A time, moved; the device's own time, and no time, stay."""
-    time = int.from_bytes(item, "little")
     if time == NO_TIME or time < SYSTEM_TIMES:
-        return bytes(item)
+        return time
     if not SYSTEM_TIMES <= time + shift < NO_TIME:
         what = f"{time} seconds, moved by {shift}, are no time any more"
         raise WrongValue(what, field, time + shift, SYSTEM_TIMES, NO_TIME - 1)
-    return (time + shift).to_bytes(4, "little")
+    return time + shift
 
 
 def edit(source: Source, sink: Sink, change: Change) -> dict[tuple[str, str], int]:
     """Writes a file, or a chain of files, with changes, and returns how many values were emptied of each field, by the
-    names of message and field. Times are cut before they are moved. Where a part is cut out, messages with another time
-    are left out, and a lap, a session and an activity are made anew by what the records say."""
-    editor, anew, is_empty = _Editor(change), Anew(), True
-    with Writer(sink) as out:
-        for event in messages(source, names=EXTRA, everything=True):
-            if isinstance(event, FileHeader):
-                anew = Anew()
-                anew.begin_lap()
-            elif isinstance(event, FileEnd):
-                is_empty = is_empty and anew.end is None
-                if change.is_cut:
-                    anew.write(out)
-            elif isinstance(event, Message):
-                if change.is_cut and (anew.takes(event) or not _stays(event, change)):
-                    continue
-                event = editor.changed(event)
-                anew.see(event)
-            out.copy(event)
-        editor.see_met()
-        if change.is_cut and is_empty:
+    names of message and field. Times are cut before they are moved. Of what is cut messages with another time are left
+    out, and so are those without one that come after one of these; distances begin at 0 again. Each lap and session
+    that has a part in the span stays, one that is cut with what its records there say."""
+    editor = _Editor(change)
+    if change.is_cut:
+        source = bytes_of(source)
+        cut = Cut(source, Span(change.begin, change.end), _Editor(change._replace(shift=0)).changed)
+        if cut.is_empty:
             raise ValueError("no record has a time in that span")
+    with Writer(sink, EXTRA) as out:
+        for event in messages(source, names=EXTRA, everything=True):
+            if change.is_cut and isinstance(event, FileEnd):
+                for anew in cut.of(event.file).rest():
+                    editor.anew(anew).write(out)
+            found = cut.of(event.file).kept(event) if change.is_cut and isinstance(event, Message) else event
+            if isinstance(found, Anew):
+                editor.anew(found).write(out)
+            elif found is not None:
+                out.copy(editor.changed(found) if isinstance(found, Message) else found)
+        editor.see_met()
     return editor.counts
-
-
-def _stays(message: Message, change: Change) -> bool:
-    time = message.seconds
-    return time is None or (change.begin is None or time >= change.begin) and (change.end is None or time <= change.end)
-
-
-def join(sources: Iterable[Source], sink: Sink, one: bool = False) -> None:
-    """Writes several files as a chain, or, with `one`, as one activity: with the header, the file_id and the sport of
-    the first, distances that go on, a lap for each, and a session and an activity made anew by what the records say."""
-    with Writer(sink) as out:
-        if not one:
-            for source in sources:
-                for event in messages(source, everything=True):
-                    out.copy(event)
-            return
-        anew = Anew()
-        for number, source in enumerate(sources):
-            before = anew.end
-            anew.begin_lap()
-            for event in _of_one(messages(source, names=EXTRA, everything=True), number, anew):
-                is_record = isinstance(event, Message) and event.number == RECORD
-                seconds = event.seconds if is_record else None
-                if before is not None and seconds is not None and seconds < before:
-                    what = f"file {number + 1} begins before the one before it ends"
-                    raise ValueError(f"{what}: name them in the order of their times")
-                out.copy(event)
-        anew.write(out)
-
-
-def _of_one(events: Iterator[Everything], number: int, anew: Anew) -> Iterator[Everything]:
-    """What one of several files adds to an activity. The first brings its header."""
-    before = anew.distance
-    for event in events:
-        if isinstance(event, FileEnd) or isinstance(event, FileHeader) and (number or event.file > 1):
-            continue
-        if isinstance(event, Message):
-            if anew.takes(event) or number and event.number in _FILE_ID:
-                continue
-            distance = event.get(_DISTANCE) if event.number == RECORD else None
-            if before and isinstance(distance, float):
-                event = event.replace({_DISTANCE: distance + before})
-            anew.see(event)
-        yield event
 
 
 def time_of(word: str) -> int:

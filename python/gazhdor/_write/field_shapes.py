@@ -133,20 +133,22 @@ class Shapes:
             found = self._developers.get(key)  # type: ignore[arg-type]
         if found is None or isinstance(key, str) and key in _known(self._message, self._names):
             if isinstance(key, tuple):
-                raise KeyError(key)
+                raise UnknownName("the file describes no developer field", label(key), self._described())
             return None
         if told is not None and base_named(told).code != found.base:
             raise ValueError(f"{found.name!r} is described as {base_of(found.base).name}")
         info = Info(found.name, found.unit, 1, 0, "")
         return Shape(found.key, base_of(found.base), None, found.number, found.developer, info)
 
+    def _described(self) -> list[str]:
+        return [name for name in self._developers if isinstance(name, str)]
+
     def _field(self, key: Any, told: Any) -> Shape:
         if isinstance(key, str):
             known = _known(self._message, self._names)
             if key not in known:
                 of = name_of(self._message) or f"message {self._message}"
-                others = [*known, *(name for name in self._developers if isinstance(name, str))]
-                raise UnknownName(f"neither the profile nor the file has in {of} a field", key, others)
+                raise UnknownName(f"neither the profile nor the file has in {of} a field", key, [*known, *self._described()])
             number = known[key]
         else:
             number = byte("a field", key)

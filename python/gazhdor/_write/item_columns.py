@@ -19,13 +19,24 @@ def listed(columns: Mapping[Any, Any]) -> dict[Any, Any]:
     for key, column in columns.items():
         if isinstance(column, (str, bytes, bytearray)):
             raise TypeError(f"a column is a list or an array of values, and not {type(column).__name__}")
-        column = column.to_numpy() if hasattr(column, "to_numpy") else column
+        column = _unmasked(column.to_numpy() if hasattr(column, "to_numpy") else column)
         found[key] = column if is_array(column) else list(column)
     lengths = {key: len(column) for key, column in found.items()}
     if len(set(lengths.values())) > 1:
         told = ", ".join(f"{key} {length}" for key, length in lengths.items())
         raise ValueError(f"the columns have different lengths: {told}")
     return found
+
+
+def _unmasked(column: Any) -> Any:
+    """A column; of a masked array of numpy its values, with None where it is masked."""
+    mask = getattr(column, "mask", None)
+    if mask is None or not hasattr(column, "filled"):
+        return column
+    if column.ndim != 1:
+        return column.tolist()
+    values = zip(column.data, mask)
+    return [None if is_masked else value for value, is_masked in values] if mask.any() else column.data
 
 
 def is_of_numbers(column: Any) -> bool:
@@ -63,6 +74,7 @@ def _put_bytes(block: bytearray, length: int, pack: Packer, column: Any) -> None
 
 def _items_of_list(pack: Packer, column: list[Any]) -> Any:
     entry = pack.entry
+    column = [_lone(pack, value, row) if isinstance(value, (list, tuple)) else value for row, value in enumerate(column)]
     if entry.kind == FLOAT:
         made = bytearray()
         for row, value in enumerate(column):
@@ -72,6 +84,13 @@ def _items_of_list(pack: Packer, column: list[Any]) -> Any:
     if not items:
         items = [_of_row(pack, pack.item, _none_of_nan(value), row) for row, value in enumerate(column)]
     return array.array(entry.item_code, items)
+
+
+def _lone(pack: Packer, items: Any, row: int) -> Any:
+    """The one item of a list, or None."""
+    if len(items) > 1:
+        raise WrongValue(f"it has {len(items)} items, and the field 1", pack.label, items, row=row)
+    return items[0] if items else None
 
 
 def _none_of_nan(value: Any) -> Any:

@@ -18,9 +18,13 @@ from ..errors import WrongValue
 _SYSTEM = re.compile(r"system\+(\d{1,9})", re.A).fullmatch
 _NAIVE = EPOCH.replace(tzinfo=None)
 _SECOND = datetime.timedelta(0, 1)
+_SINGLE = struct.Struct("<f")
 # Below this a double has all halves exactly, so that only what is nearly one has to be looked at closely.
 SURE, CLEAR = 2.0**36, 0.4999
 _MOST_DIGITS = 400
+# Units of times that are longer than a second, and how many of them are surely not too many seconds.
+COARSE, MOST_COARSE = ("Y", "M", "W", "D", "h", "m"), 2**30
+_PLAIN = (int, float, str, bytes, list, tuple)
 
 
 def shown(value: Any) -> str:
@@ -30,6 +34,33 @@ def shown(value: Any) -> str:
     if isinstance(value, (str, bytes, bytearray)):
         return repr(value[:40]) + ("..." if len(value) > 40 else "")
     return repr(value)[:80] if isinstance(value, (int, float, datetime.datetime)) else f"a {type(value).__name__}"
+
+
+def is_nothing(value: Any) -> bool:
+    """Whether a value of another type stands for none: a number that isn't one, no time, what pandas calls NA, and
+    numpy masked."""
+    if value is None or type(value).__name__ in ("NAType", "MaskedConstant"):
+        return True
+    if isinstance(value, decimal.Decimal):
+        return value.is_nan()
+    is_one = isinstance(value, (numbers.Real, datetime.datetime)) or getattr(value, "dtype", None) is not None
+    return is_one and getattr(value, "shape", ()) == () and bool(value != value)
+
+
+def single(value: Any) -> float:
+    """The number of 32 bits that is nearest to a whole number or a fraction, which is rounded once: a double that lies
+    between two of them is moved to the side of the value."""
+    near = float(value)
+    if abs(near) >= 2.0**53 or not isinstance(value, int):
+        below, above = math.nextafter(near, -math.inf), math.nextafter(near, math.inf)
+        try:
+            is_between = _SINGLE.pack(below) != _SINGLE.pack(above)
+        except OverflowError:
+            return near
+        exact = Fraction(value)
+        if is_between and exact != near:
+            return above if exact > near else below
+    return near
 
 
 def rounded(top: int, bottom: int) -> int:
@@ -75,6 +106,8 @@ class Packer:
             if value is None:
                 return self.entry.invalid
         if type(value) is float:
+            if value != value:
+                return self.entry.invalid
             item = self._steps(value)
         elif type(value) is int and self.takes_items:
             item = value
@@ -113,9 +146,11 @@ class Packer:
         return bool(self._least <= least and most <= self._most)
 
     def _number(self, value: Any) -> Any:
-        """An int, a float or a fraction of any type of number or time."""
-        if isinstance(value, bool):
+        """An int, a float or a fraction of any type of number or time; None of what stands for none."""
+        if isinstance(value, bool) or getattr(getattr(value, "dtype", None), "kind", "") == "m":
             raise self.wrong(value)
+        if is_nothing(value):
+            return None
         if isinstance(value, (datetime.datetime, str)) or getattr(getattr(value, "dtype", None), "kind", "") == "M":
             return self._seconds(value)
         if isinstance(value, numbers.Integral):
@@ -142,11 +177,10 @@ class Packer:
             return int(told[1])
         is_local = self.entry.type == "local_date_time"
         if not isinstance(value, datetime.datetime):
-            if str(value) == "NaT":
-                return None
-            value = value.astype("datetime64[s]").item()
-            if not isinstance(value, datetime.datetime):
+            time = _time_of(value)
+            if time is None:
                 raise self.wrong(value)
+            value = time
             value = value if is_local else value.replace(tzinfo=datetime.timezone.utc)
         if (value.tzinfo is None) != is_local:
             has = "has" if value.tzinfo else "has no"
@@ -197,7 +231,7 @@ class Packer:
             return self._pack(value)
         if type(value) is float and entry.kind < FLOAT and entry.count == 1:
             return self._pack(self.item(value))
-        if value is None:
+        if value is None or type(value) not in _PLAIN and is_nothing(value):
             return self.none
         if entry.kind == STRING:
             return self._text(value)
@@ -215,12 +249,12 @@ class Packer:
     def _one(self, value: Any) -> bytes:
         if self.entry.kind != FLOAT:
             return self._pack(self.item(value))
-        if value is None:
+        if is_nothing(value):
             return self.none[: self.entry.width]
         if isinstance(value, (bool, str, datetime.datetime)) or not isinstance(value, (numbers.Real, decimal.Decimal)):
             raise self._no_float(value)
         try:
-            number = float(value)
+            number = float(value) if self.entry.width == 8 or isinstance(value, float) else single(value)
             made = self._pack(number)
         except (OverflowError, ValueError):
             raise self._no_float(value) from None
@@ -249,6 +283,15 @@ class Packer:
             count = "more" if len(data) > self.size else len(data)
             raise WrongValue(f"the field has {self.size} bytes, and these are {count}", self.label, value)
         return data
+
+
+def _time_of(value: Any) -> Optional[datetime.datetime]:
+    """The time of a datetime64 of numpy; None where no field can have it."""
+    unit = str(value.dtype).partition("[")[2].rstrip("]")
+    if unit[-1:] in COARSE and abs(int(value.astype("i8"))) >= MOST_COARSE:
+        return None
+    time = value.astype("datetime64[s]").item()
+    return time if isinstance(time, datetime.datetime) else None
 
 
 def text_bytes(value: Any, field: str) -> bytes:

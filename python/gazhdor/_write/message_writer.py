@@ -56,9 +56,8 @@ class Definition:
         found = self._packers.get(key.key if isinstance(key, DeveloperField) else key)
         if found is not None:
             return found
-        if isinstance(key, str):
-            raise UnknownName("the definition has no field", key, self._known.labels)
-        raise KeyError(key)
+        name = key if isinstance(key, str) else key.name if isinstance(key, DeveloperField) else f"{key!r:.40}"
+        raise UnknownName("the definition has no field", name, self._known.labels)
 
     def _fitted(self, values: Mapping[Any, Any]) -> Mapping[Any, Any]:
         """The values, of words their numbers; the fields get the sizes that they need."""
@@ -75,6 +74,9 @@ class Definition:
         if sizes is not self._sizes:
             self._lay(sizes)
         return found
+
+    def __reduce__(self) -> Any:
+        raise TypeError("a definition of a writer can't be copied or sent to another process")
 
     def see(self, values: Mapping[Any, Any]) -> bytearray:
         """The block of a message with these values. What they can't have is raised."""

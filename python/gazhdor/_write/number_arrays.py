@@ -3,7 +3,7 @@ from typing import Any, Optional
 
 from .._numbers import FLOAT
 from .._times import EPOCH, SYSTEM_TIMES
-from .items import CLEAR, SURE, Packer
+from .items import CLEAR, COARSE, MOST_COARSE, SURE, Packer
 
 _UNIX = int(EPOCH.timestamp())
 _WORTH = 1 << 12
@@ -31,14 +31,14 @@ def items_of_list(pack: Packer, column: list[Any]) -> Optional[memoryview]:
     isn't there."""
     types = set(map(type, column)) - {type(None)}
     numpy = numpy_for(len(column)) if types in ({int}, {float}) else None
-    if numpy is None:
+    if numpy is None or types == {int} and not _are_doubles(column):
         return None
     values = numpy.array(column, "f8")
     if types == {float} or pack.entry.kind == FLOAT:
         return items_of_array(pack, values)
     none = numpy.isnan(values)
     items = numpy.where(none, 0.0, values)
-    return _packed(pack, items.astype("i8"), none) if pack.takes_items and (numpy.abs(items) < 2.0**53).all() else None
+    return _packed(pack, items.astype("i8"), none) if pack.takes_items else None
 
 
 def items_of_array(pack: Packer, column: Any) -> Optional[memoryview]:
@@ -50,8 +50,10 @@ def items_of_array(pack: Packer, column: Any) -> Optional[memoryview]:
         return _floats(pack, column) if kind != "M" else None
     if kind == "M":
         none = numpy.isnat(column)
+        if not entry.type or _is_too_coarse(column[~none]):
+            return None
         items = column.astype("datetime64[s]").astype("i8") - _UNIX
-        if not entry.type or entry.is_scaled or (items[~none] < SYSTEM_TIMES).any():
+        if entry.is_scaled or (items[~none] < SYSTEM_TIMES).any():
             return None
     elif kind == "f":
         none = numpy.isnan(column)
@@ -64,6 +66,20 @@ def items_of_array(pack: Packer, column: Any) -> Optional[memoryview]:
         if not pack.takes_items:
             return None
     return _packed(pack, items, none)
+
+
+def _are_doubles(column: list[Any]) -> bool:
+    """Whether a double has each whole number of a list just as it is."""
+    found = [number for number in column if number is not None]
+    return -(2**53) < min(found) and max(found) < 2**53
+
+
+def _is_too_coarse(times: Any) -> bool:
+    """Whether some times, in a unit that is longer than a second, are too far off to be seconds."""
+    import numpy
+
+    unit, _ = numpy.datetime_data(times.dtype)
+    return unit in COARSE and bool((numpy.abs(times.astype("i8")) >= MOST_COARSE).any())
 
 
 def _packed(pack: Packer, items: Any, none: Any) -> Optional[memoryview]:

@@ -1,35 +1,42 @@
-"""What the records of a ride say as a whole: its lap, its session, its activity."""
-from typing import Any, Optional
+"""What the records of a ride say as a whole, and what a file says of itself: its sessions, its laps, its activity."""
+import math
+from collections.abc import Iterable
+from typing import Any, NamedTuple, Optional
 
+from .._names import EXTRA
 from .._read.messages import Message
+from .._read.streams import messages
 from ..errors import WrongValue
 from .writer import Writer
 
 LAP, SESSION, RECORD, EVENT, SPORT, ACTIVITY = 19, 18, 20, 21, 12, 34
-MADE_ANEW = (LAP, SESSION, ACTIVITY)
 # Numbers of the profile: events, their types, and what ends a lap.
 _TIMER, _OF_SESSION, _OF_LAP, _OF_ACTIVITY = 0, 8, 9, 26
-_START, _STOP, _STOPS = 0, 1, (1, 4, 8, 9)
-_SESSION_END = 7
+START, STOP, STOPS = 0, 1, (1, 4, 8, 9)
+LAP_ENDS = {"event": _OF_LAP, "event_type": STOP, "lap_trigger": 7}
+SESSION_ENDS = {"event": _OF_SESSION, "event_type": STOP, "trigger": 0}
 _MEANS = ("heart_rate", "cadence", "power")
+# What adds up where rides are put together.
+ADDED = ("total_calories", "total_ascent", "total_descent", "total_cycles")
 
 
-class _Timer:
+class Timer:
     """How many seconds the timer ran, by its events; all the time where there are none."""
 
     def __init__(self) -> None:
         self._events: list[tuple[int, int]] = []
 
     def take(self, message: Message) -> None:
-        if message.get(0) == _TIMER and message.seconds is not None and message.get(1) in (_START, *_STOPS):
+        if message.get(0) == _TIMER and message.seconds is not None and message.get(1) in (START, *STOPS):
             self._events.append((message.seconds, message[1]))
 
     def ran(self, start: int, end: int) -> int:
+        """How long it ran from a second to another one."""
         total = 0
-        since: Optional[int] = start if not self._events or self._events[0][1] != _START else None
+        since: Optional[int] = start if not self._events or self._events[0][1] != START else None
         for time, kind in self._events:
             time = min(max(time, start), end)
-            if kind == _START:
+            if kind == START:
                 since = time if since is None else since
             elif since is not None:
                 total, since = total + time - since, None
@@ -37,51 +44,39 @@ class _Timer:
 
 
 class Summary:
-    """Takes in the messages of a ride, and says what they come to. Of what no record has it says nothing."""
+    """Takes in the records of a ride, and says what they come to. Of what no record has it says nothing."""
 
     def __init__(self) -> None:
-        self._timer = _Timer()
-        self._start: Optional[int] = None
-        self._end = 0
+        self.start: Optional[int] = None
+        self.end = 0
         self._places: list[tuple[int, int]] = []
         self._distances: list[float] = []
         self._top: dict[str, float] = {}
         self._sums: dict[str, tuple[float, int]] = {}
 
     def take(self, message: Message) -> None:
-        if message.number == EVENT:
-            self._timer.take(message)
-        if message.number != RECORD:
-            return
         if message.seconds is not None:
-            self._start = message.seconds if self._start is None else min(self._start, message.seconds)
-            self._end = max(self._end, message.seconds)
+            self.start = message.seconds if self.start is None else min(self.start, message.seconds)
+            self.end = max(self.end, message.seconds)
         lat, long = message.get(0), message.get(1)
         if isinstance(lat, int) and isinstance(long, int):
             self._places[1:] = [(lat, long)]
-        distance = _number(message, "distance", message.distance)
+        distance = number_of(message, "distance", message.distance)
         if distance is not None:
             self._distances[1:] = [distance]
-        speed = _number(message, "enhanced_speed", _number(message, "speed", message.speed))
-        for name, value in (("speed", speed), *((name, _number(message, name)) for name in _MEANS)):
+        speed = number_of(message, "enhanced_speed", number_of(message, "speed", message.speed))
+        for name, value in (("speed", speed), *((name, number_of(message, name)) for name in _MEANS)):
             if value is not None:
                 self._top[name] = max(value, self._top.get(name, value))
                 total, count = self._sums.get(name, (0, 0))
                 self._sums[name] = total + value, count + 1
 
     @property
-    def span(self) -> Optional[tuple[int, int]]:
-        """The times of the first and the last record; None where no record has one."""
-        return None if self._start is None else (self._start, self._end)
-
-    @property
     def last_distance(self) -> float:
         return self._distances[-1] if self._distances else 0.0
 
-    def told(self) -> dict[str, Any]:
-        """The fields that a lap and a session have alike."""
-        start, end = self.span or (0, 0)
-        ran = self._timer.ran(start, end)
+    def told(self, start: int, end: int, ran: float) -> dict[str, Any]:
+        """The fields that a lap and a session of this span have alike, in which the timer ran so long."""
         found: dict[str, Any] = {
             "timestamp": end,
             "start_time": start,
@@ -98,82 +93,102 @@ class Summary:
             found["avg_speed"] = found["total_distance"] / ran
         return {name: value for name, value in found.items() if not name.endswith("_speed") or value < 65.535}
 
-    def lap(self) -> dict[str, Any]:
-        found = self.told()
+    def lap(self, start: int, end: int, ran: float) -> dict[str, Any]:
+        found = self.told(start, end, ran)
         if self._places:
             found["end_position_lat"], found["end_position_long"] = self._places[-1]
-        return {**found, "event": _OF_LAP, "event_type": _STOP, "lap_trigger": _SESSION_END}
+        return found
 
 
-def _number(message: Message, name: str, other: Optional[float] = None) -> Optional[float]:
+def number_of(message: Message, name: str, other: Optional[float] = None) -> Optional[float]:
+    """A number that a message has, or another one."""
     value = message.get(name)
-    return float(value) if isinstance(value, (int, float)) and value == value else other
+    return float(value) if isinstance(value, (int, float)) and math.isfinite(value) else other
 
 
-class Anew:
-    """Leaves out the laps, the sessions and the activity of rides, and writes such of what their records say at the
-    end: a lap for each ride, a session of all."""
+def span_of(message: Message) -> Optional[tuple[int, int]]:
+    """The first and the last second of a lap or a session; None where it has no time."""
+    start, end, elapsed = message.get("start_time"), message.seconds, number_of(message, "total_elapsed_time")
+    lasts = None if elapsed is None else math.floor(elapsed + 0.5)
+    if not isinstance(start, int):
+        start = end if end is None or lasts is None else end - lasts
+    elif lasts is not None:
+        end = start + lasts
+    return None if start is None or end is None else (start, max(start, end))
+
+
+class Outline:
+    """What a file says of itself: its laps, its sessions, their sports, its activity, and when its timer ran."""
 
     def __init__(self) -> None:
-        self._whole = Summary()
-        self._laps: list[Summary] = []
-        self._sport: dict[str, Any] = {}
-        self._zone: Optional[int] = None
+        self.of: dict[int, list[Message]] = {LAP: [], SESSION: [], SPORT: [], ACTIVITY: []}
+        self.timer = Timer()
 
-    def begin_lap(self) -> None:
-        self._laps.append(Summary())
-
-    def takes(self, message: Message) -> bool:
-        """Whether a message is left out, as it is made anew."""
-        if message.number in (SESSION, SPORT) and not self._sport:
-            self._sport = {name: message[name] for name in ("sport", "sub_sport") if message.get(name) is not None}
-        local = message.get("local_timestamp")
-        if message.number == ACTIVITY and isinstance(local, int) and message.seconds is not None and self._zone is None:
-            self._zone = local - message.seconds
-        return message.number in MADE_ANEW
-
-    def see(self, message: Message) -> None:
-        """Takes in a message that stays."""
-        self._whole.take(message)
-        self._laps[-1].take(message)
+    def take(self, message: Message) -> None:
+        if message.number == EVENT:
+            self.timer.take(message)
+        elif message.number in (SPORT, ACTIVITY) or span_of(message):
+            self.of[message.number].append(message)
 
     @property
-    def end(self) -> Optional[int]:
-        """The time of the last record up to now."""
-        return self._whole.span[1] if self._whole.span else None
+    def zone(self) -> Optional[int]:
+        """How many seconds the clock of the place is ahead of UTC."""
+        for message in self.of[ACTIVITY]:
+            local = message.get("local_timestamp")
+            if isinstance(local, int) and message.seconds is not None:
+                return local - message.seconds
+        return None
 
     @property
-    def distance(self) -> float:
-        """The distance of the last record up to now that has one."""
-        return self._whole.last_distance
+    def sport(self) -> dict[str, Any]:
+        """The sport of its first session, or where it has none, the one that it names first."""
+        told = (sport_of(message) for message in (*self.of[SESSION], *self.of[SPORT]))
+        return next((sport for sport in told if sport), {})
+
+    def added(self, name: str) -> Optional[float]:
+        """What its sessions come to, or its laps; None where not all of them say it."""
+        for number in (SESSION, LAP):
+            values = [number_of(message, name) for message in self.of[number]]
+            if values and None not in values:
+                return sum(value for value in values if value is not None)
+        return None
+
+
+def sport_of(message: Message) -> dict[str, Any]:
+    return {name: message[name] for name in ("sport", "sub_sport") if message.get(name) is not None}
+
+
+def outlines(data: bytes) -> dict[int, Outline]:
+    """The outline of each file of a chain that says something of itself, by its number."""
+    found: dict[int, Outline] = {}
+    for message in messages(data, only=(LAP, SESSION, SPORT, ACTIVITY, EVENT), names=EXTRA):
+        found.setdefault(message.file, Outline()).take(message)
+    return found
+
+
+class Anew(NamedTuple):
+    """A message that is made anew: its name, and its values."""
+
+    message: str
+    values: dict[str, Any]
 
     def write(self, out: Writer) -> None:
-        """Writes the laps, the session and the activity, where there are records with times."""
-        if self._whole.span is None:
-            return
-        laps = [lap for lap in self._laps if lap.span is not None]
-        for number, lap in enumerate(laps):
-            _write(out, "lap", {"message_index": number, **lap.lap()})
-        counts = {"first_lap_index": 0, "num_laps": len(laps), "event": _OF_SESSION, "event_type": _STOP, "trigger": 0}
-        told = self._whole.told()
-        _write(out, "session", {"message_index": 0, **told, **self._sport, **counts})
-        local = {} if self._zone is None else {"local_timestamp": told["timestamp"] + self._zone}
-        activity = {
-            "timestamp": told["timestamp"],
-            "total_timer_time": told["total_timer_time"],
-            "num_sessions": 1,
-            "type": 0,
-        }
-        _write(out, "activity", {**activity, "event": _OF_ACTIVITY, "event_type": _STOP, **local})
+        """Writes it, and nothing of what its fields can't have, as the mean of values that no ride has."""
+        values = self.values
+        while True:
+            try:
+                out.write(self.message, values)
+                return
+            except WrongValue as wrong:
+                if wrong.field not in values:
+                    raise
+                values = {name: value for name, value in values.items() if name != wrong.field}
 
 
-def _write(out: Writer, message: str, values: dict[str, Any]) -> None:
-    """Writes a message, and nothing of what its fields can't have, as the mean of values that no ride has."""
-    while True:
-        try:
-            out.write(message, values)
-            return
-        except WrongValue as wrong:
-            if wrong.field not in values:
-                raise
-            values = {name: value for name, value in values.items() if name != wrong.field}
+def activity_of(end: int, timers: Iterable[float], zone: Optional[int], told: Optional[Message] = None) -> Anew:
+    """The message of an activity of so many sessions, which ends at a second; of one that was told its type, too."""
+    ran = list(timers)
+    own = {name: told[name] for name in ("type", "event", "event_type") if told and told.get(name) is not None}
+    local = {} if zone is None else {"local_timestamp": end + zone}
+    values = {"timestamp": end, "total_timer_time": sum(ran), "num_sessions": len(ran), "type": 0}
+    return Anew("activity", {**values, "event": _OF_ACTIVITY, "event_type": STOP, **own, **local})

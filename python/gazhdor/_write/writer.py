@@ -27,7 +27,7 @@ from .definitions import END, KINDS, FieldDefinition, Kept, Layouts, fields_of_b
 from .field_shapes import DeveloperField, Shapes, Spec, byte, message_number
 from .header_times import is_out_of_time, with_time
 from .message_writer import Definition
-from .sinks import Sink, see_sink, write
+from .sinks import Sink, sink_of, write
 
 _LOCALS = 16
 _PROFILE = 21158  # the release that the names of the module are of
@@ -63,8 +63,7 @@ class Writer:
     """
 
     def __init__(self, sink: Sink, names: Told = None) -> None:
-        see_sink(sink)
-        self._sink, self._names = sink, names_of(names)
+        self._sink, self._names = sink_of(sink), names_of(names)
         # the blocks of the current file, and the bytes of those before it
         self._chunks: Optional[list[Union[bytes, bytearray]]] = []
         self._files: list[bytes] = []
@@ -157,6 +156,8 @@ class Writer:
         developer data index `index`, and the next number that is free. `native` says that it stands for a field of a
         message, as `("record", 7)`. `application` has the 16 bytes of the application that it is of; they are written
         with the first field of an index."""
+        if application is not None and (not isinstance(application, (bytes, bytearray)) or len(application) != 16):
+            raise ValueError("an application is named by 16 bytes")
         known = [of.number for of in self._developers.values() if of.developer == index]
         field = max(known, default=-1) + 1 if number is None else number
         told: dict[Any, Any] = {
@@ -172,7 +173,7 @@ class Writer:
         definition = self.define(DESCRIPTION, fields)
         definition.see(told)
         if index not in self._indices:
-            own = {"application_id": application} if application else {}
+            own = {"application_id": bytes(application)} if application else {}
             self.write(DEVELOPER_DATA, {"developer_data_index": index, **own})
             self._indices.add(index)
         definition.write(told)
@@ -208,18 +209,22 @@ class Writer:
     # ---- the end
 
     def finish(self) -> None:
-        """Writes the file, as the end of `with` does. After that the writer can't be used."""
+        """Writes the file, as the end of `with` does. After that the writer can't be used. Where that fails, as on a
+        full disk, nothing is lost, and it can be called again; a file object may have got a part then."""
         self._end()
-        files = self._files
-        self.discard()
-        if not files:
+        if not self._files:
+            self.discard()
             raise ValueError("nothing was written, and no file is empty")
-        write(self._sink, files[0] if len(files) == 1 else b"".join(files))
+        write(self._sink, self._files[0] if len(self._files) == 1 else b"".join(self._files))
+        self.discard()
 
     def discard(self) -> None:
         """Forgets all, and writes nothing. After that the writer can't be used."""
         self._chunks, self._files = None, []
         self._forget()
+
+    def __reduce__(self) -> Any:
+        raise TypeError("a writer can't be copied or sent to another process")
 
     def __enter__(self) -> "Writer":
         return self
@@ -249,11 +254,10 @@ class Writer:
     def _end(self) -> None:
         chunks = self._usable()
         if self._is_open:
+            made = from_blocks(b"".join([*chunks, END]))
             self._is_whole = False
-            chunks.append(END)
-            blocks = b"".join(chunks)
+            self._files.append(made)
             chunks.clear()
-            self._files.append(from_blocks(blocks))
             self._forget()
             self._is_open, self._is_whole = False, True
 
