@@ -30,6 +30,9 @@ Classifier: Operating System :: POSIX :: Linux
 Classifier: Programming Language :: Python :: 3
 Classifier: Typing :: Typed
 """
+ENTRY_POINTS = """[console_scripts]
+gazhdor = gazhdor.__main__:main
+"""
 WHEEL = """Wheel-Version: 1.0
 Generator: gazhdor
 Root-Is-Purelib: false
@@ -115,6 +118,7 @@ def build_wheel(wheel_directory, config_settings=None, metadata_directory=None):
         (f"{about}/LICENSE", _read(TREE, "LICENSE")),
         (f"{about}/METADATA", METADATA.format(version=version).encode()),
         (f"{about}/WHEEL", WHEEL.format(tag=tag).encode()),
+        (f"{about}/entry_points.txt", ENTRY_POINTS.encode()),
     ]
     record = f"{about}/RECORD"
     files.append((record, (_record(files) + f"{record},,\n").encode()))

@@ -120,7 +120,7 @@ class Edit(unittest.TestCase):
             (["edit", RIDE], 2, "IN and OUT"),
             (["edit", "--drop", "hart_rate", RIDE, at("none.fit")], 2, "is it 'heart_rate'"),
             (["edit", "--drop", "recrod.3", RIDE, at("none.fit")], 2, "is it 'record'"),
-            (["edit", "--shift", "1h", RIDE, at("none.fit")], 2, "--shift 1h"),
+            (["edit", "--shift", "1x", RIDE, at("none.fit")], 2, "--shift: '1x' is no time to move by"),
             (["edit", "--from", "2026-05-17T07:30:00", RIDE, at("none.fit")], 2, "zone"),
             (["edit", "--frob", RIDE, at("none.fit")], 2, "--frob"),
             (["edit", at("missing.fit"), at("none.fit")], 4, "No such file"),

@@ -107,8 +107,14 @@ class Mend(unittest.TestCase):
         done = command("mend", input=BYTES[:2000])
         self.assertEqual((done.returncode, done.stdout), (0, gazhdor.mend(BYTES[:2000])))
         self.assertEqual(done.stderr, f"-: truncated at byte 2000; mended: {len(done.stdout)} of 2000 bytes\n".encode())
-        done = command("mend", RIDE, "-", input=b"PK")
-        self.assertEqual((done.returncode, done.stdout, done.stderr), (1, BYTES, b"-: refused at byte 1: Protocol\n"))
+        done = command("mend", "-", input=b"\x0e\xff")
+        self.assertEqual((done.returncode, done.stdout), (1, b""))
+        self.assertEqual(done.stderr, b"mend: -: refused at byte 1: Protocol\n")
+        into = os.path.join(WORK, "mended.fit")
+        cases = ((RIDE,), 0), ((RIDE, into), 0), ((RIDE, into), 2), (("-f", RIDE, into), 0), ((RIDE, into, into), 2)
+        for words, status in cases:
+            self.assertEqual(command("mend", *words).returncode, status)
+        self.assertEqual(bytes_at(into), BYTES)
 
 
 class Gpx(unittest.TestCase):

@@ -88,7 +88,7 @@ class Wheel(unittest.TestCase):
         for name, path in wanted.items():
             self.assertEqual(files[name], bytes_at(in_tree(path)))
         self.assertEqual(sorted(files), sorted([*wanted, *(f"{about}/{name}" for name in ("METADATA", "WHEEL",
-            "RECORD"))]))
+            "RECORD", "entry_points.txt"))]))
         record = list(csv.reader(io.StringIO(files[f"{about}/RECORD"].decode())))
         self.assertEqual([row[0] for row in record], list(files))
         for name, told, length in record[:-1]:
@@ -131,6 +131,9 @@ class Wheel(unittest.TestCase):
             done = imported(to, USE)
             self.assertEqual((done.stdout.decode(), done.stderr), (f"{VERSION} ok {to}/gazhdor/__init__.py\n", b""))
             listed.append(sorted(os.listdir(os.path.join(to, "gazhdor"))))
+            command = os.path.join(to, "bin", "gazhdor")
+            done = subprocess.run([command, "check", RIDE], stdout=subprocess.PIPE, env=variables(PYTHONPATH=to))
+            self.assertEqual(done.stdout.decode(), f"{RIDE}: ok, 1 file\n")
         self.assertEqual(listed[0], listed[1])
         elsewhere = ["--platform", "manylinux_2_17_riscv64", "--only-binary", ":all:", "--target", to]
         other = run("-m", "pip", "install", "--no-index", *elsewhere, self.wheel)

@@ -1,0 +1,1 @@
+"""The command gazhdor, which is also python3 -m gazhdor."""
