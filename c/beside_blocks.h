@@ -34,8 +34,12 @@ int gazhdor_next(gazhdor_reader *reader)
     const gazhdor_block *known = &reader->known[block.bytes[GAZHDOR_AT_MESSAGE_LOCAL] & 15];
     if (block.kind == GAZHDOR_MESSAGE && known->number == block.number)
         reader->definition = *known;
-    if (block.kind == GAZHDOR_MESSAGE && reader->definition.bytes != NULL)
-        reader->message = (uint32_t)gazhdor_load(reader->definition, GAZHDOR_AT_DEFINITION_MESSAGE, 2);
+    if (block.kind != GAZHDOR_MESSAGE)
+        return 1;
+    if (reader->definition.bytes == NULL)
+        reader->unknown++;
+    reader->message = reader->definition.bytes == NULL ? GAZHDOR_UNKNOWN_MESSAGE
+        : (uint32_t)gazhdor_load(reader->definition, GAZHDOR_AT_DEFINITION_MESSAGE, 2);
     return 1;
 }
 

@@ -1,36 +1,53 @@
 /* Copies a FIT file without its places: edit FILE NEW
  *
- * Positions of records, and of all else that has some in Garmin's profile, are set to no value; what else the file has keeps its bytes. A
- * developer field, or one that no profile names, may tell a place too: see `fit show NEW`. */
+ * Latitudes and longitudes, and texts of places, are set to no value, in all messages and developer fields; what else the file has keeps its
+ * bytes. Python's `edit --drop position` has the same rule. Bytes of which nobody says what they are may tell a place too. */
 #include "gazhdor.h"
 
+#include <ctype.h>
 #include <stdio.h>
 #include <stdlib.h>
 
-/* Fields `first` to `last` of a message are positions. */
-static const struct {
-    uint32_t message;
-    uint8_t first, last;
-} positions[] = {
-    { GAZHDOR_MESSAGE_RECORD, 0, 1 },
-    { GAZHDOR_MESSAGE_LAP, 3, 6 },
-    { GAZHDOR_MESSAGE_LAP, 27, 30 },     /* the box around it */
-    { GAZHDOR_MESSAGE_SESSION, 3, 4 },
-    { GAZHDOR_MESSAGE_SESSION, 29, 32 }, /* the box around it */
-    { GAZHDOR_MESSAGE_SESSION, 38, 39 }, /* its end */
-    { 32, 2, 3 },                        /* course_point */
-    { 160, 1, 2 },                       /* gps_metadata */
-    { 285, 5, 6 },                       /* jump */
-    { 312, 21, 24 },                     /* split */
-    { 317, 0, 1 },                       /* climb_pro */
-};
-
-static int is_position(uint32_t message, gazhdor_field field)
+/* Whether one of some words, with blanks around each, is in a name, and no part of another word. */
+static int has_word(const char *name, const char *words)
 {
-    for (size_t i = 0; i < sizeof positions / sizeof positions[0]; i++)
-        if (message == positions[i].message && !field.developer && field.number >= positions[i].first && field.number <= positions[i].last)
-            return 1;
-    return 0;
+    char word[32];
+    for (size_t length = 0;; name++) {
+        if (isalpha((unsigned char)*name) && length < sizeof word - 3) {
+            word[++length] = (char)tolower((unsigned char)*name);
+        } else {
+            word[0] = word[length + 1] = ' ';
+            word[length + 2] = 0;
+            if (length != 0 && strstr(words, word) != NULL)
+                return 1;
+            length = 0;
+        }
+        if (*name == 0)
+            return 0;
+    }
+}
+
+static int is_in_degrees(const char *unit)
+{
+    return has_word(unit, " semicircles semicircle deg degree degrees ") || strcmp(unit, "\xc2\xb0") == 0;
+}
+
+/* Whether a field of a message tells a place: a whole number of 32 bits with a sign, unless it has a unit of something else, also by the code
+ * that some devices write, without its highest bit; what is named as latitude or longitude; a float in degrees that isn't named as an
+ * angle; a float, a text or bytes that are named as a position; and the location of weather_conditions (128). */
+static int is_place(uint32_t message, gazhdor_field field)
+{
+    if ((field.base_type & 0x1F) == (GAZHDOR_TYPE_SINT32 & 0x1F) && (field.unit[0] == 0 || is_in_degrees(field.unit)))
+        return 1;
+    if (field.kind <= GAZHDOR_FLOAT && field.width < 4)
+        return 0;
+    if (has_word(field.name, " lat latitude long lon lng longitude "))
+        return 1;
+    if (field.kind == GAZHDOR_FLOAT && is_in_degrees(field.unit))
+        return !has_word(field.name, " heading course bearing azimuth yaw pitch roll tilt lean angle slope phase ");
+    if (field.kind >= GAZHDOR_STRING && message == 128 && !field.developer && field.number == 8)
+        return 1;
+    return field.kind >= GAZHDOR_FLOAT && has_word(field.name, " position pos location place gps geo coordinate coordinates address city ");
 }
 
 /* The bytes of a file; NULL where it can't be read. */
@@ -59,7 +76,7 @@ static uint8_t *load(const char *path, size_t *length)
     return NULL;
 }
 
-/* Copies all blocks, and takes the positions out of the messages. */
+/* Copies all blocks, and takes the places out of the messages. */
 static void copy(gazhdor_writer *to, gazhdor_text blocks)
 {
     gazhdor_reader at = gazhdor_read(blocks);
@@ -68,7 +85,7 @@ static void copy(gazhdor_writer *to, gazhdor_text blocks)
         if (at.block.kind != GAZHDOR_MESSAGE)
             continue;
         for (gazhdor_field f = gazhdor_first_field(at.definition); f.there; f = gazhdor_next_field(at.definition, f))
-            if (is_position(at.message, f))
+            if (is_place(at.message, f))
                 gazhdor_set_invalid(to, f);
     }
 }

@@ -28,6 +28,7 @@ extern "C" {
 enum gazhdor_amount_kind { GAZHDOR_SPEED = 0, GAZHDOR_DISTANCE = 1, GAZHDOR_CYCLES = 2, GAZHDOR_POWER = 3 };
 
 #define GAZHDOR_NO_MESSAGE 0xFFFFFFFFu
+#define GAZHDOR_UNKNOWN_MESSAGE 0xFFFFFFFEu
 #define GAZHDOR_NO_DEFINITION 0xFFFFFFFFFFFFFFFFu
 
 /* Add this to a time for seconds since 1970-01-01T00:00:00 UTC. A time below GAZHDOR_SYSTEM_TIME has no date: it counts from when the
@@ -49,11 +50,12 @@ typedef struct gazhdor_block {
 typedef struct gazhdor_reader {
     gazhdor_block block;      /* the one that it is at */
     gazhdor_block definition; /* of a message its definition, of a definition itself, else none */
-    uint32_t message;         /* at a message its global message number, an enum gazhdor_message_number if it has a name; else
-                               * GAZHDOR_NO_MESSAGE */
+    uint32_t message;         /* at a message its global message number, an enum gazhdor_message_number if it has a name, or
+                               * GAZHDOR_UNKNOWN_MESSAGE where the reader doesn't know its definition; else GAZHDOR_NO_MESSAGE */
     gazhdor_text left;        /* the blocks that are still to come */
     gazhdor_block known[16];  /* the last definition of each local message type */
     uint8_t *kept[16];        /* copies of those that lie in blocks of earlier pieces, by gazhdor_keep */
+    uint64_t unknown;         /* how many messages it came to without their definition, as those of a piece that was read alone */
 } gazhdor_reader;
 
 /* A field of the messages of a definition. */
@@ -108,9 +110,10 @@ int gazhdor_next(gazhdor_reader *reader);
  *         while (gazhdor_next(&at)) ..
  *         int kept = gazhdor_keep(&at);
  *         gazhdor_free(blocks);
+ *     if (at.unknown != 0) ..                        messages whose definition wasn't kept
  *     gazhdor_forget(&at);
  *
- * Names and units last as long as the blocks here too: a field is looked up again after gazhdor_keep. */
+ * Where each piece gets a reader of its own, most messages are GAZHDOR_UNKNOWN_MESSAGE. Names and units last as long as the blocks here too: a field is looked up again after gazhdor_keep. */
 
 /* Goes on before the first of the blocks of the next piece. */
 static inline void gazhdor_read_on(gazhdor_reader *reader, gazhdor_text blocks)
@@ -119,7 +122,7 @@ static inline void gazhdor_read_on(gazhdor_reader *reader, gazhdor_text blocks)
 }
 
 /* Passes over the blocks that are left, and copies the definitions that later messages may be of, in memory of malloc, so that the blocks
- * may be freed: 1. Where memory is refused for one it is 0, and its messages are passed over. From here on the reader isn't copied. */
+ * may be freed: 1. Where memory is refused for one it is 0, and its messages are unknown. From here on the reader isn't copied. */
 int gazhdor_keep(gazhdor_reader *reader);
 
 /* Frees these copies. The reader knows no definition any more. */

@@ -205,11 +205,11 @@ static void no_blocks(gazhdor_text blocks, uint8_t *bytes)
     at = gazhdor_read(blocks);
     while (at.block.kind != GAZHDOR_MESSAGE)
         WANT(gazhdor_next(&at));
-    WANT(at.message == GAZHDOR_NO_MESSAGE && at.definition.bytes == NULL);
+    WANT(at.message == GAZHDOR_UNKNOWN_MESSAGE && at.definition.bytes == NULL && at.unknown == 1);
     blocks.bytes += place;
     blocks.length = 248;
     at = gazhdor_read(blocks);
-    WANT(gazhdor_next(&at) && at.message == GAZHDOR_NO_MESSAGE && at.definition.bytes == NULL && at.block.number == 9);
+    WANT(gazhdor_next(&at) && at.message == GAZHDOR_UNKNOWN_MESSAGE && at.definition.bytes == NULL && at.block.number == 9);
     for (size_t i = 0; i < sizeof lengths; i++) {
         bytes[place] = lengths[i];
         at = gazhdor_read(blocks);

@@ -261,10 +261,39 @@ static void kept(const uint8_t *bytes, size_t length, size_t size)
         WANT(at.left.length == 0 && gazhdor_keep(&at) && at.block.bytes == NULL && at.message == GAZHDOR_NO_MESSAGE);
         gazhdor_free(text);
     }
-    WANT(!gazhdor_next(&wanted));
+    WANT(!gazhdor_next(&wanted) && at.unknown == 0);
     gazhdor_close(&stream);
     gazhdor_forget(&at);
     WANT(memory.blocks == before && !gazhdor_next(&at));
+    gazhdor_free(all);
+}
+
+/* A reader for each piece, as where the loop for pieces stands around that for messages, misses no message without saying so: each one is
+ * a message that the reader of all blocks finds, or unknown, and counted. */
+static void alone(const uint8_t *bytes, size_t length, size_t size)
+{
+    gazhdor_text all = GAZHDOR_NO_TEXT;
+    gazhdor_messages(bytes, length, &all);
+    gazhdor_reader wanted = gazhdor_read(all);
+    gazhdor_stream stream = GAZHDOR_CLOSED_STREAM;
+    gazhdor_open(&stream, GAZHDOR_STREAM_MESSAGES);
+    for (size_t begin = 0; begin < length; begin += size) {
+        gazhdor_text text = GAZHDOR_NO_TEXT;
+        uint64_t unknown = 0;
+        gazhdor_feed(&stream, bytes + begin, length - begin < size ? length - begin : size, &text);
+        gazhdor_reader at = gazhdor_read(text);
+        while (gazhdor_next(&at)) {
+            WANT(gazhdor_next(&wanted));
+            if (wanted.message != GAZHDOR_NO_MESSAGE)
+                WANT(at.message == wanted.message || at.message == GAZHDOR_UNKNOWN_MESSAGE);
+            else
+                WANT(at.message == GAZHDOR_NO_MESSAGE);
+            unknown += at.message == GAZHDOR_UNKNOWN_MESSAGE;
+        }
+        WANT(at.unknown == unknown);
+        gazhdor_free(text);
+    }
+    gazhdor_close(&stream);
     gazhdor_free(all);
 }
 
@@ -454,7 +483,7 @@ int main(int argc, char **argv)
             passed_on(kind, 4);
         }
         for (size_t size = 1; size < 100; size += 7)
-            kept(given, given_length, size), left_early(given, given_length, 7 * size);
+            kept(given, given_length, size), alone(given, given_length, size), left_early(given, given_length, 7 * size);
         if (strstr(argv[i], "ride") != NULL)
             forgotten(given, given_length);
     }

@@ -168,8 +168,8 @@ class Hostile(unittest.TestCase):
                 return 10**6 * "x"
 
         good = (120, 120.4, decimal.Decimal("119.5"), fractions.Fraction(241, 2) - 1, 119.5)
-        wrong = (True, False, "120", b"x", 255, -1, 256, float("nan"), float("inf"), -float("inf"),
-            decimal.Decimal("nan"), decimal.Decimal("1e999999999"), 10**5000, -(10**5000))
+        wrong = (True, False, "120", b"x", 255, -1, 256, float("inf"), -float("inf"),
+            decimal.Decimal("1e999999999"), 10**5000, -(10**5000))
         wrong += (decimal.Decimal("-1e-999999999999"), decimal.Decimal(401 * "1"), 1e308, complex(1, 2), object(),
             Hidden(), {}, set(), datetime.timedelta(1), [1, 2, 3] * 100, lambda: 5)
         made = io.BytesIO()

@@ -96,7 +96,7 @@ class _Editor:
     def _drops(self, definition: Definition, entry: Entry) -> bool:
         number = entry.number if entry.index is None else None
         named = _Named(definition.name, definition.number, entry.name, number)
-        words = {word for word in self._change.drop if named.is_of(word)}
+        words = {word for word in self._change.drop if word != _POSITION and named.is_of(word)}
         if _POSITION in self._change.drop and is_place(definition.number, entry):
             words.add(_POSITION)
         self._met |= words

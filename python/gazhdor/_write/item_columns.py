@@ -35,8 +35,9 @@ def _unmasked(column: Any) -> Any:
         return column
     if column.ndim != 1:
         return column.tolist()
-    values = zip(column.data, mask)
-    return [None if is_masked else value for value, is_masked in values] if mask.any() else column.data
+    if not mask.any():
+        return column.data
+    return [None if is_masked else value for value, is_masked in zip(column.data, mask)]
 
 
 def is_of_numbers(column: Any) -> bool:
