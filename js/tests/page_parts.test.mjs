@@ -78,7 +78,8 @@ function seeScales() {
 function seeUnits() {
     const metric = unitsOf(false), miles = unitsOf(true)
     assert.deepEqual([metric.distance.text(8558.46), miles.distance.text(8558.46)], ["8.56 km", "5.32 mi"])
-    assert.deepEqual([metric.pace.text(4), miles.pace.text(4), metric.swim.text(.8333), miles.swim.text(.8333)], ["4:10 /km", "6:42 /mi", "2:00 /100 m", "1:50 /100 yd"])
+    assert.deepEqual([metric.pace.text(4), miles.pace.text(4)], ["4:10 /km", "6:42 /mi"])
+    assert.deepEqual([metric.swim.text(.8333), miles.swim.text(.8333)], ["2:00 /100 m", "1:50 /100 yd"])
     assert.deepEqual([metric.temperature.text(20), miles.temperature.text(20), miles.height.text(100)], ["20 °C", "68 °F", "328 ft"])
     assert.deepEqual([metric.steps.text(85), metric.power.text(21733), metric.pace.text(0)], ["170 steps/min", "21,733 W", "– /km"])
     assert.deepEqual(metric.height.lines(235.92240000000004, 235.92240000000004), [[235.92240000000004, "236"]])
@@ -121,7 +122,8 @@ function seeExample() {
 
 /* GPX and a file without places, as the module of Python makes them. */
 async function seePython() {
-    const place = folder(), env = { ...process.env, PYTHONPATH: inTree("python") }, { "mixed.fit": mixed, "recorded-developer.fit": recorded } = await allFiles()
+    const place = folder(), env = { ...process.env, PYTHONPATH: inTree("python") }
+    const { "mixed.fit": mixed, "recorded-developer.fit": recorded } = await allFiles()
     const python = (...words) => spawnSync("python3", ["-m", "gazhdor", ...words], { env, maxBuffer: 2 ** 30 })
     const files = [RIDE, mixed, developer(gazhdor), triathlon(gazhdor), RIDE.subarray(0, 2000), ...(recorded ? [recorded] : [])]
     const paths = files.map((bytes, k) => join(place, `${k}.fit`))
@@ -156,8 +158,8 @@ function seeMany() {
 
 /* 255 developer fields of one file, each with a name of its own. */
 function seeManyFields() {
-    const described = Array.from({ length: 200 }, (_, k) => `data,4,,field_description,,,\nfield,developer_data_index,0,,,,\nfield,field_definition_number,${k},,,,
-field,fit_base_type_id,2,,,,\nfield,field_name,own ${k},,,,\n`).join("")
+    const described = Array.from({ length: 200 }, (_, k) => `data,4,,field_description,,,\nfield,developer_data_index,0,,,,
+field,field_definition_number,${k},,,,\nfield,fit_base_type_id,2,,,,\nfield,field_name,own ${k},,,,\n`).join("")
     const bytes = gazhdor.fromCsv(`row,a,b,c,d,e,f\nfile,12,32,0,none,,\ndef,4,0,little,206,4,\nfdef,0,1,2,,,\nfdef,1,1,2,,,\nfdef,2,1,2,,,\nfdef,3,16,7,,,
 ${described}def,1,0,little,20,0,200\n${Array.from({ length: 200 }, (_, k) => `ddef,${k},1,0,,,\n`).join("")}data,1,,record,,,
 ${Array.from({ length: 200 }, (_, k) => `dev,own ${k},${k},,,,\n`).join("")}end,,,,,,\n`)
