@@ -1,6 +1,6 @@
 /* Two rides beside each other, as a table; the charts and the track have the second as a line of its own. */
 import { element } from "./element.mjs"
-import { mannerOf, soleSport, sportWord } from "./sports.mjs"
+import { mannerOf, soleSport, soleWord } from "./sports.mjs"
 import { rideTotals } from "./totals.mjs"
 import { duration } from "./units.mjs"
 
@@ -22,7 +22,7 @@ function textOf(ride, all, name, quantity, units) {
 export function besideTable(rides, names, units, away) {
     const all = rides.map(rideTotals), table = element("table"), head = table.createTHead().insertRow(), body = table.createTBody()
     head.append(element("td"), ...names.map((name, k) => element("th", name, { scope: "col", className: k === 1 ? "second" : "" })))
-    const words = rides.map(ride => sportWord(soleSport(ride)))
+    const words = rides.map(soleWord)
     const rows = [["Sport", words], ...ROWS.map(([title, name, quantity]) => [title, rides.map((ride, k) => textOf(ride, all[k], name, quantity, units))])]
     for (const [title, texts] of rows) {
         if (texts.every(text => text === "")) continue

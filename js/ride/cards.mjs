@@ -1,6 +1,6 @@
 /* The summary of a ride as cards: of several sessions some cards for each. */
 import { card, element } from "./element.mjs"
-import { isSwim, mannerOf, soleSport, sportWord } from "./sports.mjs"
+import { isSwim, mannerOf, soleSport, soleWord, sportWord } from "./sports.mjs"
 import { rideTotals, rowTotals } from "./totals.mjs"
 import { duration } from "./units.mjs"
 
@@ -36,10 +36,10 @@ function beginOf({ start }, word) {
 /* The cards of a ride; `mark` marks the points of a session. */
 export function summaryOf(ride, units, mark) {
     const all = rideTotals(ride), sole = soleSport(ride), sessions = ride.sessions.slice(0, MOST_SESSIONS)
-    const word = sessions.length > 1 && sole === null ? "Several sports" : sportWord(sole)
+    const word = sessions.length > 1 && sole === null ? "Several sports" : soleWord(ride)
     const parts = [cardsOf([...beginOf(all, word || "Start"), ...toldOf(all, sole, units)])]
     if (sessions.length > 1) sessions.forEach((row, k) => {
-        const title = sportWord(row.sport) || `Session ${k + 1}`
+        const title = sportWord(row) || `Session ${k + 1}`
         const button = element("button", title, { type: "button", className: "plain", onclick: () => mark(row, title) })
         parts.push(element("h2", undefined, {}, button), cardsOf(toldOf(rowTotals(row), row.sport, units)))
     })

@@ -7,8 +7,6 @@ export const GUTTER = 44 // Left of what is drawn stand the values of the lines.
 const PAD = 8, RIGHT = 6, FOOT = 16
 const STEPS = [1, 2, 5, 10, 15, 30, 60, 120, 300, 600, 900, 1800, 3600, 7200, 10800, 21600, 43200, 86400]
 
-const pathOf = part => part.map(({ x, y }, k) => `${k ? "L" : "M"}${x.toFixed(1)} ${y.toFixed(1)}`).join("")
-
 /* Where there are lines along a chart, and their texts. */
 function alongs({ low, high, width }, view, units) {
     const { distance } = units
@@ -96,14 +94,14 @@ export class Chart {
     }
 
     #line(frame) {
-        const parts = thinned(frame, this.view.seconds, this.column), made = []
+        const parts = thinned(frame, this.view.seconds, this.column), outside = arrows(parts, this.shown, this.y)
+        let drawn = "", under = ""
         for (const part of parts) {
-            const line = part.map(({ x, y }) => ({ x, y: this.y(y) }))
-            if (this.filled) made.push(drawing("path", { class: "under", d: `${pathOf(line)}V${this.bottom}H${line[0].x.toFixed(1)}Z` }))
-            made.push(drawing("path", { class: "drawn", d: line.length > 1 ? pathOf(line) : `${pathOf(line)}h.1` }))
+            const path = this.#path(part)
+            drawn += part.length > 1 ? path : `${path}h.1`
+            if (this.filled) under += `${path}V${this.bottom}H${part[0].x.toFixed(1)}Z`
         }
-        const outside = arrows(parts, this.shown, this.y)
-        return outside === "" ? made : [...made, drawing("path", { class: "outside", d: outside })]
+        return [["under", under], ["drawn", drawn], ["outside", outside]].filter(([, d]) => d !== "").map(([kind, d]) => drawing("path", { class: kind, d }))
     }
 
     /* The same of the ride beside it, as far as it goes. */
@@ -111,9 +109,11 @@ export class Chart {
         if (this.beside === undefined) return []
         const { xs, seconds, column } = this.beside
         const at = xs.map(one => (left + (one - low) * scale >= left && (one - low) * scale <= width ? left + (one - low) * scale : NaN))
-        return thinned({ at, from: 0, to: at.length - 1 }, seconds, column).map(part =>
-            drawing("path", { class: "beside", d: pathOf(part.map(({ x, y }) => ({ x, y: this.y(y) }))) }))
+        const parts = thinned({ at, from: 0, to: at.length - 1 }, seconds, column)
+        return parts.length === 0 ? [] : [drawing("path", { class: "beside", d: parts.map(part => this.#path(part)).join("") })]
     }
+
+    #path(part) { return part.map(({ x, y }, k) => `${k ? "L" : "M"}${x.toFixed(1)} ${this.y(y).toFixed(1)}`).join("") }
 
     #cross() {
         this.here = drawing("g", { visibility: "hidden" })

@@ -1,7 +1,7 @@
 /* The power curve of a ride, and how long it was in each zone. */
 
 const PAUSE = 10 // Where so many seconds have no record, the rider stood.
-const MOST_SECONDS = 1 << 21
+const MOST_SECONDS = 1 << 20
 const TIMES = [1, 2, 3, 5, 8, 10, 15, 20, 30, 45, 60, 90, 120, 180, 300, 480, 600, 900, 1200, 1800, 2700, 3600, 5400, 7200, 10800, 14400, 18000]
 
 /* How many seconds each point stands for: up to the next one, but one where a pause follows. */

@@ -1,7 +1,7 @@
 /* The track of a ride as GPX 1.1, a text that maps and other programs read: the same that `gazhdor.gpx` of Python makes. */
 import { FitError } from "../src/answers.mjs"
 import { VERSION } from "../src/core.mjs"
-import { PIECE } from "../src/sources.mjs"
+import { pieces } from "../src/sources.mjs"
 import { Stream } from "../src/streams.mjs"
 
 const HEAD = `<?xml version="1.0" encoding="UTF-8"?>
@@ -30,20 +30,17 @@ function point(cells) {
 function* rows(gazhdor, bytes) {
     const stream = new Stream(gazhdor, "table")
     let isHead = true
+    const linesOf = text => {
+        const lines = text.split("\n").slice(isHead ? 1 : 0, -1)
+        isHead = isHead && text === ""
+        return lines
+    }
     try {
-        for (let at = 0; at <= bytes.length; at += PIECE) {
-            let text, fault = null
-            try {
-                text = stream.feed(bytes.subarray(at, at + PIECE)) + (at + PIECE > bytes.length ? stream.finish() : "")
-            } catch (error) {
-                if (!(error instanceof FitError)) throw error
-                [text, fault] = [error.before, error]
-            }
-            const lines = (text ?? "").split("\n").slice(0, -1)
-            yield* isHead && lines.length > 0 ? lines.slice(1) : lines
-            if (lines.length > 0) isHead = false
-            if (fault !== null) return
-        }
+        for (const piece of pieces(bytes)) yield* linesOf(stream.feed(piece))
+        yield* linesOf(stream.finish())
+    } catch (error) {
+        if (!(error instanceof FitError)) throw error
+        yield* linesOf(error.before)
     } finally {
         stream.close()
     }

@@ -27,7 +27,10 @@ function tables({ ride, view }, units, mark) {
     byId("tables").replaceChildren(...all.filter(([, rows]) => rows.length > 0).map(([word, rows]) => tableOf(word, rows, how)))
     const told = ride.counts.slice(0, 100).map(([message, count]) => `${count.toLocaleString("en")} ${message}`)
     byId("counts").replaceChildren(element("h2", "Messages"), element("p", told.join(" · "), { className: "quiet" }))
-    view.on("span", span => { for (const line of document.querySelectorAll("#tables tr")) line.classList.toggle("lit", span !== null && span.row !== null && line.row === span.row) })
+    view.on("span", span => {
+        const row = span?.row ?? null
+        for (const line of document.querySelectorAll("#tables tbody tr")) line.classList.toggle("lit", row !== null && line.row === row)
+    })
 }
 
 function efforts({ ride: { points } }, units) {

@@ -2,7 +2,7 @@
 import { Message, SYSTEM_TIMES, milliseconds } from "../src/messages.mjs"
 
 const TOTALS = [
-    "sport", "sub_sport", "total_distance", "total_elapsed_time", "total_timer_time", "total_ascent", "total_descent", "total_calories", "total_cycles",
+    "total_distance", "total_elapsed_time", "total_timer_time", "total_ascent", "total_descent", "total_calories", "total_cycles",
     "avg_speed", "max_speed", "avg_heart_rate", "max_heart_rate", "avg_cadence", "avg_power", "max_power",
 ]
 /* Fields that the proved profile hasn't, by their numbers and scales as Garmin's public profile has them. */
@@ -15,11 +15,18 @@ const MORE = {
 }
 const KINDS = { 18: "session", 19: "lap", 101: "length" }
 const START = { session: 2, lap: 2, length: 2 }
+const SUB_SPORT = 39 // of a lap, where the proved profile doesn't name it
 const MOST_ROWS = 2000
 
 const number = value => (typeof value === "number" && Number.isFinite(value) ? value : null)
 const moment = seconds => (seconds !== null && seconds >= SYSTEM_TIMES && seconds < 2 ** 32 ? milliseconds(seconds) : null)
 const first = (...values) => values.find(value => value !== null && value !== undefined) ?? null
+
+/* What sport a message tells of: its number, its word, and the word of what kind of it. */
+function sportOf(message) {
+    const sub_word = message.word("sub_sport") ?? message.word(SUB_SPORT) ?? null
+    return { sport: number(message.get("sport")), sport_word: message.word("sport") ?? null, sub_word }
+}
 
 function rowOf(kind, message) {
     const more = {}
@@ -27,7 +34,8 @@ function rowOf(kind, message) {
         const told = number(message.get(field))
         more[name] = told === null ? null : told / scale
     }
-    const row = { start: moment(number(message.get(START[kind]))), end: moment(message.seconds), stroke: more.stroke, normalized: first(more.normalized) }
+    const row = { start: moment(number(message.get(START[kind]))), end: moment(message.seconds), normalized: first(more.normalized) }
+    Object.assign(row, kind === "length" ? { sport: null } : sportOf(message), { stroke: more.stroke, stroke_word: message.word(MORE[kind].stroke[0]) ?? null })
     for (const name of TOTALS) row[name] = kind === "length" ? null : number(message.get(name))
     row.lengths = first(more.lengths, more.all_lengths)
     row.pool_length = first(more.pool_length)
@@ -59,7 +67,7 @@ export class Rows {
         const bytes = blocks.slice(begin, end), part = { bytes, view: new DataView(bytes.buffer) }
         for (let at = 0; at < bytes.length && (isSport || rows.length < MOST_ROWS); at += length) {
             const message = new Message(definition, part, at)
-            if (isSport) this.sport = number(message.get("sport"))
+            if (isSport) this.sport = sportOf(message)
             else rows.push(rowOf(KINDS[definition.number], message))
             if (isSport) break
         }

@@ -1,6 +1,7 @@
 /* Columns of numbers: their ranges, where they stand across a chart, and what of them is drawn. */
 
-export const BREAK = 300 // A line is broken where so many seconds lie between two points.
+export const MOST_DRAWN = 40000 // So many points has a line at most; only times and places that go to and fro make more of them.
+const BREAK = 300 // A line is broken where so many seconds lie between two points.
 const SAMPLE = 1 << 14
 const REST = .0005 // of the points at each end, which may lie outside of what a chart shows
 
@@ -65,14 +66,18 @@ export function across(xs, { from, to }, left, width) {
  * least, the greatest and the last. */
 export function thinned({ at, from, to }, seconds, column) {
     const parts = []
-    let part = null, pixel = NaN, before = NaN, first = -1, low = -1, high = -1, last = -1
+    let count = 0, part = null, pixel = NaN, before = NaN, first = -1, low = -1, high = -1, last = -1
     const flush = () => {
         if (first < 0) return
         let before = -1
-        for (const k of [first, Math.min(low, high), Math.max(low, high), last]) if (k !== before) part.push({ x: at[before = k], y: column[k] })
+        for (const k of [first, Math.min(low, high), Math.max(low, high), last]) {
+            if (k === before) continue
+            part.push({ x: at[before = k], y: column[k] })
+            count++
+        }
         first = -1
     }
-    for (let k = from; k <= to; k++) {
+    for (let k = from; k <= to && count < MOST_DRAWN; k++) {
         const y = column[k], x = Math.floor(at[k])
         if (Number.isNaN(y) || Number.isNaN(x)) continue
         const isApart = part === null || Math.abs(seconds[k] - before) > BREAK

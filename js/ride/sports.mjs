@@ -1,13 +1,16 @@
 /* What a sport is called, and how its speed and its cadence are told. */
 
-const WORDS = {
-    1: "Running", 2: "Cycling", 3: "Transition", 4: "Fitness equipment", 5: "Swimming", 10: "Training", 11: "Walking", 12: "Cross-country skiing",
-    13: "Alpine skiing", 14: "Snowboarding", 15: "Rowing", 16: "Mountaineering", 17: "Hiking", 18: "Multisport", 19: "Paddling", 21: "E-biking",
-}
-const STROKES = ["Freestyle", "Backstroke", "Breaststroke", "Butterfly", "Drill", "Mixed", "Medley"]
+const spaced = word => word.replaceAll("_", " ")
+const capital = word => word.slice(0, 1).toUpperCase() + word.slice(1)
 
-export const sportWord = sport => (sport === null || sport === undefined ? "" : WORDS[sport] ?? `Sport ${sport}`)
-export const strokeWord = stroke => (stroke === null ? "" : STROKES[stroke] ?? `Stroke ${stroke}`)
+/* The sport of a row, in words: with what kind of it, where that is told. */
+export function sportWord({ sport, sport_word: word, sub_word: kind }) {
+    if (sport === null) return ""
+    const name = word === null ? `Sport ${sport}` : capital(spaced(word))
+    return kind === null || kind === "generic" || kind === word ? name : `${name}, ${spaced(kind)}`
+}
+
+export const strokeWord = ({ stroke, stroke_word: word }) => (stroke === null ? "" : word === null ? `Stroke ${stroke}` : capital(spaced(word)))
 
 /* Cadence is of one leg, so steps are twice as many. */
 const RUN = { speed: "pace", cadence: "steps" }
@@ -19,8 +22,12 @@ const MANNERS = {
 export const mannerOf = sport => MANNERS[sport] ?? { speed: "speed", cadence: "rpm" }
 export const isSwim = sport => sport === 5
 
-/* The one sport of all sessions, or null. */
-export function soleSport({ sessions, sport }) {
+/* The row that tells the one sport of all sessions, or null. */
+function soleRow({ sessions, sport }) {
     const sports = new Set(sessions.map(one => one.sport))
-    return sports.size === 1 ? sessions[0].sport : sports.size === 0 ? sport : null
+    return sports.size === 0 ? sport : sports.size === 1 ? sessions[0] : null
 }
+
+/* The number of the one sport of all sessions, or null; and the word for it. */
+export const soleSport = ride => soleRow(ride)?.sport ?? null
+export const soleWord = ride => (soleRow(ride) === null ? "" : sportWord(soleRow(ride)))

@@ -19,7 +19,7 @@ function columnsOf(rows, units, sport, begin) {
         ["avg_speed", isMixed ? "Speed" : speedHead, told("speed", "avg_speed")],
         ["lengths", "Lengths", row => number("count")(row.lengths)],
         ["total_cycles", "Strokes", row => (isSwim(row.sport ?? sport) ? number("count")(row.total_cycles) : "")],
-        [null, "Stroke", row => (row.length_type === IDLE ? "Rest" : strokeWord(row.stroke))],
+        [null, "Stroke", row => (row.length_type === IDLE ? "Rest" : strokeWord(row))],
         ["avg_power", "W", row => number("power")(row.avg_power)], ["normalized", "Norm. W", row => number("power")(row.normalized)],
         ["avg_cadence", isMixed ? "Cadence" : units[one.cadence].unit, told("cadence", "avg_cadence")],
         ["max_speed", `Max. ${isMixed ? "speed" : speedHead.toLowerCase()}`, told("speed", "max_speed")],
@@ -35,11 +35,11 @@ function columnsOf(rows, units, sport, begin) {
 /* The first cell of a row: its number, and its sport where that is another than before. It marks the points of the row. */
 function nameOf(row, k, rows, word, mark) {
     const isOther = row.sport !== null && (k === 0 ? rows.some(one => one.sport !== row.sport) : rows[k - 1].sport !== row.sport)
-    const title = `${word} ${k + 1}${isOther ? `, ${sportWord(row.sport)}` : ""}`
+    const title = `${word} ${k + 1}${isOther ? `, ${sportWord(row)}` : ""}`
     const button = element("button", `${k + 1}`, { type: "button", className: "plain", onclick: () => mark(row, title) })
     button.setAttribute("aria-label", `Mark ${title.toLowerCase()}`)
     const head = element("th", undefined, { scope: "row" }, button)
-    if (isOther) head.append(element("small", sportWord(row.sport)))
+    if (isOther) head.append(element("small", sportWord(row)))
     return head
 }
 

@@ -13,7 +13,7 @@ export function rowTotals(row) {
     return {
         start: row.start, distance, time, speed: first(row.avg_speed, speedOf(distance, time)), ascent: row.total_ascent, calories: row.total_calories,
         heart_rate: row.avg_heart_rate, most_heart_rate: row.max_heart_rate, power: row.avg_power, normalized: row.normalized, cadence: row.avg_cadence,
-        lengths: row.lengths, strokes: row.total_cycles, pool_length: row.pool_length, sport: row.sport, sub_sport: row.sub_sport,
+        lengths: row.lengths, strokes: row.total_cycles, pool_length: row.pool_length,
     }
 }
 
@@ -34,11 +34,11 @@ export function pointTotals(points, from = 0, to = points.length - 1) {
 }
 
 /* Of all sessions; where there is none, of the points. */
-export function rideTotals({ sessions, points, sport }) {
+export function rideTotals({ sessions, points }) {
     const all = pointTotals(points), rows = sessions.map(rowTotals)
     if (rows.length === 1) return { ...all, ...Object.fromEntries(Object.entries(rows[0]).filter(([, value]) => value !== null)) }
     const sum = name => rows.reduce((sum, one) => (one[name] === null ? sum : (sum ?? 0) + one[name]), null)
-    if (rows.length === 0) return { ...all, ascent: null, calories: null, sport }
+    if (rows.length === 0) return { ...all, ascent: null, calories: null }
     const hearts = rows.map(one => one.most_heart_rate).filter(one => one !== null)
     return {
         ...all, start: first(rows[0].start, all.start), distance: first(sum("distance"), all.distance), time: first(sum("time"), all.time),

@@ -1,6 +1,6 @@
 /* The track of a ride, drawn from its coordinates, as SVG in pixels of the page. */
 import { drawing, element } from "./element.mjs"
-import { range, shownRange } from "./scales.mjs"
+import { MOST_DRAWN, range, shownRange } from "./scales.mjs"
 
 const EDGE = 16, DEGREE = 111195 // metres of a degree of latitude
 export const SHADES = 7 // as the style sheet has colours for
@@ -40,10 +40,11 @@ function placed(tracks, width, height) {
 /* The path of the points between two, of those that are apart by most of a pixel. */
 function path({ xs, ys }, from, to) {
     let made = "", x = NaN, y = NaN, pen = "M"
-    for (let k = from; k <= to; k++) {
+    for (let k = from, count = 0; k <= to && count < MOST_DRAWN; k++) {
         if (Number.isNaN(xs[k]) || Number.isNaN(ys[k]) || Math.abs(xs[k] - x) + Math.abs(ys[k] - y) < .8) continue
         made += `${pen}${(x = xs[k]).toFixed(1)} ${(y = ys[k]).toFixed(1)}`
         pen = "L"
+        count++
     }
     return made === "" ? "" : `${made}h.1`
 }
@@ -52,12 +53,13 @@ function path({ xs, ys }, from, to) {
 function shaded({ xs, ys }, column, { low, high }) {
     const paths = Array(SHADES).fill("")
     let x = NaN, y = NaN, before = -1
-    for (let k = 0; k < xs.length; k++) {
+    for (let k = 0, count = 0; k < xs.length && count < MOST_DRAWN; k++) {
         if (Number.isNaN(xs[k]) || Number.isNaN(ys[k]) || Number.isNaN(column[k]) || Math.abs(xs[k] - x) + Math.abs(ys[k] - y) < .8) continue
         const shade = Math.max(0, Math.min(SHADES - 1, Math.floor((column[k] - low) / (high - low || 1) * SHADES)))
         if (shade !== before) paths[shade] += Number.isNaN(x) ? `M${xs[k].toFixed(1)} ${ys[k].toFixed(1)}h.1` : `M${x.toFixed(1)} ${y.toFixed(1)}`
         paths[shade] += `L${(x = xs[k]).toFixed(1)} ${(y = ys[k]).toFixed(1)}`
         before = shade
+        count++
     }
     return paths.map((d, k) => drawing("path", { class: `shade shade${k}`, d })).filter(one => one.getAttribute("d") !== "")
 }

@@ -87,8 +87,9 @@ async function seeCards() {
     for (const width of [360, 390, 700, 1200]) {
         const page = await pageWith("swim.fit", swim(gazhdor), { width })
         await page.value("document.querySelector('.card b').textContent = '17. Septembre 2026'")
-        const cut = "[...document.querySelectorAll('.card, .card b')].filter(one => one.scrollWidth > one.clientWidth + 1 || getComputedStyle(one).textOverflow === 'ellipsis')"
-        assert.deepEqual(await page.value(`${cut}.map(one => one.textContent)`), [], `${width}`)
+        const isCut = "one => one.scrollWidth > one.clientWidth + 1 || getComputedStyle(one).textOverflow === 'ellipsis'"
+        const cut = await page.value(`[...document.querySelectorAll('.card, .card b')].filter(${isCut}).map(one => one.textContent)`)
+        assert.deepEqual(cut, [], `${width}`)
         assert.ok(await page.value("document.documentElement.scrollWidth") <= width)
     }
 }
