@@ -59,7 +59,8 @@ def _words(tree, folder):
     writer, source = os.path.join(sources, "module_c.py"), os.path.join(sources, "everywhere.c")
     with open(os.path.join(folder, "gazhdor_module.c"), "wb") as file:
         subprocess.run([sys.executable, "-B", writer, _whole(tree, "js/gazhdor.wasm")], stdout=file, check=True)
-    words = ["-O2", "-w", "-shared", f"-I{os.path.join(tree, 'c')}", f"-I{folder}", source]
+    flags = shlex.split(os.environ.get("CFLAGS", "-O2"))
+    words = [*flags, "-w", "-shared", f"-I{os.path.join(tree, 'c')}", f"-I{folder}", source]
     if system == "Darwin":
         return [*words, "-arch", platform.machine(), f"-mmacosx-version-min={_oldest_mac()}"]
     return words if system == "Windows" else [*words, "-fPIC"]

@@ -17,7 +17,7 @@ pub fn archive(here: &Path, to: &Path) -> PathBuf {
     }
     let object = to.join("gazhdor.o");
     run(&tools("CC", &usual("gcc", &["cc", "gcc", "clang"])), |command| {
-        command.args(["-std=c99", "-O2", "-w", "-c"]).arg(sources.join("everywhere.c"));
+        command.args(["-std=c99", "-w", "-c"]).args(words("CFLAGS", "-O2")).arg(sources.join("everywhere.c"));
         command.arg("-I").arg(&headers).arg("-I").arg(&packed).arg("-I").arg(to).arg("-o").arg(&object);
         if variable("CARGO_CFG_TARGET_OS") != "windows" {
             command.arg("-fPIC");
@@ -59,16 +59,29 @@ fn usual(tool: &str, here: &[&str]) -> Vec<String> {
     here.iter().map(|name| name.to_string()).collect()
 }
 
-/// What environment variables call a tool for the target, as CC_x86_64_unknown_linux_gnu, TARGET_CC and CC; else its usual names.
+/// The words of an environment variable for the target, else the usual ones.
+fn words(name: &str, usual: &str) -> Vec<String> {
+    told(name).unwrap_or_else(|| usual.to_string()).split_whitespace().map(String::from).collect()
+}
+
+/// What environment variables call a tool for the target; else its usual names.
 fn tools(name: &str, usual: &[String]) -> Vec<String> {
+    told(name).map_or_else(|| usual.to_vec(), |told| vec![told])
+}
+
+/// What the first of some environment variables says, as CC_x86_64_unknown_linux_gnu, TARGET_CC and CC.
+fn told(name: &str) -> Option<String> {
     let target = variable("TARGET");
-    let names =
-        [format!("{name}_{target}"), format!("{name}_{}", target.replace('-', "_")), format!("TARGET_{name}"), name.to_string()];
+    let names = [
+        format!("{name}_{target}"),
+        format!("{name}_{}", target.replace('-', "_")),
+        format!("TARGET_{name}"),
+        name.to_string(),
+    ];
     for name in &names {
         println!("cargo:rerun-if-env-changed={name}");
     }
-    let told = names.iter().map(|name| variable(name)).find(|told| !told.is_empty());
-    told.map_or_else(|| usual.to_vec(), |told| vec![told])
+    names.iter().map(|name| variable(name)).find(|told| !told.is_empty())
 }
 
 /// Runs the first of some tools that is there. Stops where it fails, or none is there.

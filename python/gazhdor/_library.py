@@ -67,7 +67,9 @@ def _find() -> tuple[str, ctypes.CDLL]:
     inside = packed(NAME)
     if inside is not None:
         # The module is in a zip file, of which the system loads nothing. A library that is loaded needs its file no
-        # more.
+        # more, but for Windows, where nothing may write a file that is open, nor remove one that is loaded.
+        if NAME.endswith(".dll"):
+            raise LibraryUnusable(f"{beside} is in a zip file, of which Windows loads nothing: unpack it", beside)
         import tempfile
 
         with tempfile.NamedTemporaryFile(prefix="gazhdor-", suffix=NAME) as file:

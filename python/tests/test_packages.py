@@ -119,6 +119,17 @@ class Wheel(unittest.TestCase):
         self.assertEqual((done.stdout.decode(), done.stderr), (f"{VERSION} ok {there}/gazhdor/__init__.py\n", b""))
         self.assertEqual(os.listdir(WORK), before)
 
+    def test_windows(self):
+        """A wheel for Windows, which says so, and isn't taken as a zip file there."""
+        os.makedirs(os.path.join(WORK, "windows"))
+        dll = shutil.copy(in_tree(LIBRARY), os.path.join(WORK, "windows", "gazhdor.dll"))
+        build = f"import backend; print(backend.build_wheel({WORK!r}, {{'library': {dll!r}, 'platform': 'win_amd64'}}))"
+        name = run("-c", build, cwd=PYTHON).stdout.decode().strip()
+        self.assertEqual(name, f"gazhdor-{VERSION}-py3-none-win_amd64.whl")
+        there = shutil.copy(os.path.join(WORK, name), os.path.join(WORK, "windows.zip"))
+        done = imported(there, "import sys\nsys.platform = 'win32'\nimport gazhdor")
+        self.assertIn(f"LibraryUnusable: {there}/gazhdor/gazhdor.dll is in a zip file", done.stderr.decode())
+
     def test_pip(self):
         """Installed of the tree, and of the wheel: the same files, which need nothing of the tree."""
         has(run("-m", "pip", "--version").returncode == 0, "pip")

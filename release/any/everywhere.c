@@ -34,7 +34,7 @@ static int memory_open(memory *m, u64 pages)
 
 static int memory_hold(memory *m, u32 pages)
 {
-    unsigned char *base = pages > SIZE_MAX >> 16 ? NULL : realloc(m->base, (size_t)pages << 16);
+    unsigned char *base = (u64)pages << 16 > SIZE_MAX ? NULL : realloc(m->base, (size_t)pages << 16);
     if (base == NULL)
         return 0;
     m->base = base;

@@ -142,7 +142,7 @@ class Function:
         if kind == "loop":
             self._say(block)
         if condition is not None:
-            self._say(f"if({condition.text}){{")
+            self._say(f"if({condition.condition}){{")
 
     def _else(self, _):
         block = self._ended()
@@ -181,7 +181,7 @@ class Function:
     def _branch_if(self, reader):
         block, condition = self._block(reader.unsigned()), self._pop()
         if not block.names or block.kind == "loop":
-            self._say(f"if({condition.text}){self._goto(block)}")
+            self._say(f"if({condition.condition}){self._goto(block)}")
             return
         name = self._variable("u32")
         self._say(f"{name}={condition.text};")

@@ -33,6 +33,11 @@ class Value:
         return f"(u32){self.text}" if self.truth else self.text
 
     @property
+    def condition(self):
+        """The text in the parentheses of an `if`: a truth has its own, and compilers warn of two around `==`."""
+        return self.text[1:-1] if self.truth else self.text
+
+    @property
     def stays(self):
         """Whether the text means the same at any later place: that of a variable which is set once, or a constant."""
         return self.constant is not None or self.text[0] == "t"
