@@ -11,6 +11,7 @@ pub mod NoFaultWhereFits
 pub mod KeptInPlaces
 pub mod FirstOfNumber
 pub mod BytesOfNumbers
+pub mod OneWalk
 pub mod MessageSizes
 pub mod ReadMessages
 pub mod RoomSums

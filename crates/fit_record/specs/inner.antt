@@ -1,3 +1,4 @@
 -- Definitions that no public contract cites: what private functions and proofs need.
 pub mod Kept
 pub mod SlotLists
+pub mod Describing

@@ -1,10 +1,10 @@
 //! What a field description message says (FIT protocol, "Developer Fields").
-ghost use Rattle.std.specs.Prelude.{◌≡◌, ◌≤◌, [], None, option_copied, length, map};
-ghost use Rattle.fit_record.specs.Environment.{description, first_items, only, only_byte};
+ghost use Rattle.std.specs.Prelude.{◌≡◌, option_copied, length, map};
+ghost use Rattle.fit_record.specs.Environment.{description, first_items, only_byte};
 ghost use Rattle.fit_record.specs.MessageBytes.{message_in};
-ghost use Rattle.fit_record.specs.ReadMessages.{fields_from};
-ghost use Rattle.fit_record.specs.Records.{HaveShape, message_size, sizes};
+ghost use Rattle.fit_record.specs.Records.{HaveShape, message_size};
 
+use crate::describing::description_by_bytes;
 use crate::{FieldDef, MessageBytes, MessageDef, Values};
 use fit_base::Items;
 use std::alloc::Allocator;
@@ -103,57 +103,5 @@ impl<'a, A: Allocator> MessageBytes<'a, A> {
             return None;
         }
         description_by_bytes(definition, self.body)
-    }
-}
-
-/// What a field description describes, by its bytes.
-#[inline(never)]
-fn description_by_bytes<A: Allocator>(d: &MessageDef<A>, bytes: &[u8]) -> Option<Description>
-    requires global { d.now.global ≡ 206 }
-    requires size { sizes (map (λ f. (f.code, f.size)) d.now.fields) ≤ length bytes.now }
-    ensures { result ≡ description d.now (record {
-      local = 0;
-      offset = None;
-      fields = fields_from {A = A} d.now.order (map (λ f. (f.code, f.size)) d.now.fields) bytes.now;
-      dev = [];
-    }) }
-{
-    let index = byte_in(d, bytes, 0)?;
-    let number = byte_in(d, bytes, 1)?;
-    let code = byte_in(d, bytes, 2)?;
-    Some(Description {
-        key: DevKey { index, number },
-        code,
-    })
-}
-
-/// The only byte of the first field of this number, where it has just one, in the bytes of a message. Where no bytes are left, no field has
-/// any.
-fn byte_in<A: Allocator>(d: &MessageDef<A>, bytes: &[u8], number: u8) -> Option<u8>
-    requires { sizes (map (λ f. (f.code, f.size)) d.now.fields) ≤ length bytes.now }
-    ensures { result ≡ only_byte d.now.fields (fields_from {A = A} d.now.order
-        (map (λ f. (f.code, f.size)) d.now.fields) bytes.now) number }
-{
-    let mut rest = bytes;
-    for field in d.fields.as_slice() {
-        if rest.is_empty() {
-            return None;
-        }
-        let (here, after) = rest.split_at(field.size as usize);
-        if field.number == number {
-            return lone_byte(here);
-        }
-        rest = after;
-    }
-    None
-}
-
-/// The one byte where there is just one.
-fn lone_byte(bytes: &[u8]) -> Option<u8>
-    ensures { result ≡ only bytes.now }
-{
-    match bytes {
-        [byte] => Some(*byte),
-        _ => None,
     }
 }

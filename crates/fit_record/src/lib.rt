@@ -3,6 +3,7 @@
 #![tactic(auto)]
 
 mod definition;
+mod describing;
 mod environment;
 mod file;
 mod fits;

@@ -11,6 +11,7 @@ pub mod OneByte
 pub mod Runs
 pub mod Rest
 pub mod Fills
+pub mod FarFromTheEnd
 pub mod Rows
 pub mod RoomsStayFillable
 pub mod TwoLists

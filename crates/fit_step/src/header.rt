@@ -1,5 +1,5 @@
 //! What a record header begins (FIT protocol, "Record Header").
-ghost use Rattle.std.specs.Prelude.{◌≡◌, IfOk, IsOk, length, map};
+ghost use Rattle.std.specs.Prelude.{◌≡◌, ◌++◌, [], ◌∷◌, IfOk, IsOk, OnOk, length, map};
 ghost use Rattle.fit_record.specs.Sound.{IsSound};
 ghost use Rattle.fit_record.specs.Records.{layout, dev_layout};
 ghost use Rattle.fit_record.specs.Sizes.{HasNoFields};
@@ -51,18 +51,48 @@ pub(crate) fn new_message<A: Allocator + Copy>(
     })
 }
 
-/// A field without items, and memory for those that its size gives. For a lone one none is taken.
+/// A field without items, and memory for those that its size gives. For a lone one none is taken, nor is its size divided.
+#[inline(always)]
 fn empty_items<A: Allocator>(alloc: A, code: u8, size: u8) -> Result<Items<A>, AllocError>
     ensures { IfOk result (λ items. items ≡ no_items (code, size)) }
 {
     let width = width_of(Code(code), size);
+    if size <= width {
+        return Ok(Items {
+            width,
+            bits: Bits::new(alloc),
+        });
+    }
     Ok(Items {
         width,
         bits: Bits::with_capacity(alloc, (size / width) as usize)?,
     })
 }
 
-/// Fields without items.
+/// Puts a field without items after those before, and memory for the items that its size gives. One without bytes has its width from its code
+/// alone.
+#[inline(always)]
+fn push_empty<A: Allocator + Copy>(
+    items: &mut Entries<Items<A>, A>,
+    alloc: A,
+    code: u8,
+    size: u8,
+) -> Result<(), AllocError>
+    ensures { OnOk result (items.new ≡ items.old ++ no_items (code, size) ∷ []) }
+{
+    if size == 0 {
+        items.push(Items {
+            width: width_of(Code(code), 0),
+            bits: Bits::new(alloc),
+        })?;
+        return Ok(());
+    }
+    items.push(empty_items(alloc, code, size)?)?;
+    Ok(())
+}
+
+/// Fields without items. Each call is a walk of its own, which knows where its layout stands.
+#[inline(always)]
 fn empty_fields<A: Allocator + Copy>(
     alloc: A,
     layout: &Layout<'_>,
@@ -76,7 +106,7 @@ fn empty_fields<A: Allocator + Copy>(
     let mut items = Entries::with_capacity(alloc, layout.len())?;
     for place in 0..layout.len() {
         let (code, size) = layout.slot(place);
-        items.push(empty_items(alloc, code, size)?)?;
+        push_empty(&mut items, alloc, code, size)?;
     }
     Ok(items)
 }

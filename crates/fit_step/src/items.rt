@@ -70,7 +70,9 @@ fn take_byte<A: Allocator + Copy>(
     Ok(())
 }
 
-/// The first field from a place on that has bytes: its place, the width of its items, and its size.
+/// The first field from a place on that has bytes: its place, the width of its items, and its size. Each call is a walk of its own, which
+/// knows where its layout stands.
+#[inline(always)]
 fn field_from(layout: &Layout<'_>, from: usize) -> Option<(u8, u8, u8)>
     requires few { length layout.now < 256 }
     requires from { from ≤ length layout.now }

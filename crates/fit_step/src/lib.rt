@@ -4,6 +4,7 @@
 mod by_bytes;
 mod definition;
 mod definition_byte;
+mod developer_definition;
 mod header;
 mod held;
 mod inside;

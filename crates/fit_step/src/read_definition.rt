@@ -1,10 +1,10 @@
-//! Definition messages without developer fields, of which all bytes are in one piece.
+//! Definition messages of which all bytes are in one piece.
 ghost use Rattle.std.specs.Prelude.{◌≡◌, ℕ, List, ◌*◌, IfOk, IfSome, IsSomeAnd, [], ◌∷◌, flat_map, length};
 ghost use Rattle.fit_base.specs.Numbers.{number};
 ghost use Rattle.fit_base.specs.declared.number.Order.{Order as ByteOrder};
 ghost use Rattle.fit_record.specs.Records.{architecture, field_bytes};
 ghost use Rattle.fit_step.specs.declared.read_definition.Front.{Front as Fronts};
-ghost use Rattle.fit_step.specs.inner.Definitions.{Begins, definition_of};
+ghost use Rattle.fit_step.specs.inner.Definitions.{Begins, BeginsWith, definition_of};
 
 use crate::header::{has_developer_fields, has_reserved_bit, is_definition, local_type};
 use fit_base::{Entries, Order};
@@ -44,17 +44,17 @@ pub(crate) fn global_of(order: Order, first: u8, second: u8) -> u16
     }
 }
 
-/// The definition message without developer fields that begins the piece, where all its bytes stand there: what it says before its
-/// fields, and their bytes.
+/// What the definition message says before its fields that begins the piece, and their bytes, where these stand there. `developer` says
+/// whether it is one with developer fields, whose bytes come after.
 #[inline(always)]
-pub(crate) fn definition_bytes(piece: &[u8]) -> Option<(Front, &[u8])>
-    ensures begins { IfSome result (λ found. Begins found.0 found.1.now piece.now) }
-    ensures found { (f : Fronts) (entries : List ℕ) → Begins f entries piece.now
+pub(crate) fn front_bytes(developer: bool, piece: &[u8]) -> Option<(Front, &[u8])>
+    ensures begins { IfSome result (λ found. BeginsWith developer found.0 found.1.now piece.now) }
+    ensures found { (f : Fronts) (entries : List ℕ) → BeginsWith developer f entries piece.now
         → IsSomeAnd result (λ found. length found.1.now ≡ length entries) }
 {
     let (header, rest) = piece.split_first()?;
     let byte = *header;
-    if has_reserved_bit(byte) || !is_definition(byte) || has_developer_fields(byte) {
+    if has_reserved_bit(byte) || !is_definition(byte) || has_developer_fields(byte) != developer {
         return None;
     }
     if rest.len() < 5 {
@@ -76,6 +76,17 @@ pub(crate) fn definition_bytes(piece: &[u8]) -> Option<(Front, &[u8])>
         count,
     };
     Some((front, entries))
+}
+
+/// The definition message without developer fields that begins the piece, where all its bytes stand there: what it says before its
+/// fields, and their bytes.
+#[inline(always)]
+pub(crate) fn definition_bytes(piece: &[u8]) -> Option<(Front, &[u8])>
+    ensures begins { IfSome result (λ found. Begins found.0 found.1.now piece.now) }
+    ensures found { (f : Fronts) (entries : List ℕ) → Begins f entries piece.now
+        → IsSomeAnd result (λ found. length found.1.now ≡ length entries) }
+{
+    front_bytes(false, piece)
 }
 
 /// The fields, three bytes for each.

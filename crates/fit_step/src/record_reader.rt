@@ -10,7 +10,9 @@ ghost use Rattle.fit_step.specs.Places.{state_at};
 ghost use Rattle.fit_step.specs.Skipping.{HasDefinition, HasMessage};
 ghost use Rattle.fit_step.specs.Tests.{tests_of};
 ghost use Rattle.fit_step.specs.inner.Scans.{StandsWithRoom, TakesByte};
+ghost use Rattle.fit_step.specs.inner.Whole.{StandsWhole};
 
+use crate::developer_definition::developer_definition;
 use crate::inside::take_inside;
 use crate::one_byte::step;
 use crate::read_definition::{read_fields, with_fields};
@@ -112,7 +114,28 @@ fn scan_bytes<A: Allocator + Copy>(
     (piece.len(), Ok(false))
 }
 
-/// A data message of which all bytes stand at the front of the piece, where one begins there. It is learned.
+/// A data message, or a definition message with developer fields, of which all bytes stand at the front of the piece, where one begins
+/// there, and how many they are. `read_whole_definition` reads those without developer fields.
+#[inline(always)]
+fn whole_record<A: Allocator + Copy>(
+    alloc: A,
+    env: &Env<A>,
+    room: u32,
+    piece: &[u8],
+) -> Option<(Record<A>, usize)>
+    requires { 0 < room }
+    ensures { IfSome result (λ found. StandsWhole env.now room piece.now found.0 found.1) }
+{
+    match whole_message(alloc, env, room, piece) {
+        Some((values, used)) => Some((Record::Values(values), used)),
+        None => match developer_definition(alloc, room, piece) {
+            Some((definition, used)) => Some((Record::Define(definition), used)),
+            None => None,
+        },
+    }
+}
+
+/// A record that `whole_record` reads, where no byte of one has come. It is learned.
 #[inline(always)]
 fn take_whole<A: Allocator + Copy>(
     alloc: A,
@@ -131,8 +154,7 @@ fn take_whole<A: Allocator + Copy>(
         Some(_) => return None,
         None => {}
     }
-    let (values, used) = whole_message(alloc, env, position.room, piece)?;
-    let record = Record::Values(values);
+    let (record, used) = whole_record(alloc, env, position.room, piece)?;
     match env.learn(&record) {
         Ok(()) => {}
         Err(_) => return None,

@@ -7,8 +7,8 @@ pub loop-place-preserved : goal.loop-place-preserved
 loop-place-preserved g c =
     let slots = c.args.layout.now in
     let k = c.loop-place.place in
-    c.in_ok-push.ensures.ok ∙ ap (λ l. l ++ c.in_ok-empty_items.field-0 ∷ []) c.loop-place.invariant
-    ∙ ap (λ n. map no_items (take k slots) ++ n ∷ []) c.in_ok-empty_items.ensures ∙ sym (one_more_field slots k c.slot-code.result c.slot-code.ensures)
+    c.in_ok-push_empty.ensures ∙ ap (λ l. l ++ no_items c.slot-code.result ∷ []) c.loop-place.invariant
+    ∙ sym (one_more_field slots k c.slot-code.result c.slot-code.ensures)
 
 pub returns-then-len-eq0-clause-made : goal.returns-then-len-eq0-clause-made
 returns-then-len-eq0-clause-made g c = grind (arith, common_steps)

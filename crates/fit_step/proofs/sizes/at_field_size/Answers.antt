@@ -2,9 +2,6 @@ use Rattle.fit_step.proofs.Common.{rules}
 use Rattle.fit_step.specs.Machine.{definition_move}
 use Rattle.fit_step.proofs.sizes.at_field_size.Goals as goal
 
-pub entries_complete-requires : goal.entries_complete-requires
-entries_complete-requires g c = (assumption, c.requires.fits.local)
-
 pub returns-then-not-entries_complete-clause-made :
     goal.returns-then-not-entries_complete-clause-made
 unfolding definition_move
