@@ -11,7 +11,7 @@ use Rattle.fit_record.specs.declared.message.Record.TheVariants.{Values as Messa
 use Rattle.fit_chain.specs.Events.{known_after}
 use Rattle.fit_step.proofs.SkippedRecords.{skipped_after}
 use Rattle.fit_step.specs.Skipping.{HasMessage, Learns, SkipsInSection}
-use Rattle.fit_decode.specs.Answers.{Seen, MessageFollows, MessagesFollow, NextMessage}
+use Rattle.fit_decode.specs.Answers.{Seen, MessageFollows, MessagesFollow, NextMessage, RecordIsToCome}
 use Rattle.fit_decode.specs.declared.section.Section.TheVariants.{Header}
 use Rattle.fit_decode.specs.inner.Aheads.{IsAhead, RoomAhead}
 use Rattle.fit_decode.specs.inner.Skips.{Skipped}
@@ -81,6 +81,18 @@ module _ {A : Type 0} (d : Inside A) (k : IsSoundDecoder d) (at : d.stage.sectio
           subst (λ p. HasCome kept.files (at_data kept.header kept.size kept.records p) d.history.items) no_part kept.come,
         );
       }
+
+-- There is room just where a record is to come.
+pub record_to_come : {A : Type 0} (seen : Seen) (room : ℕ) → RoomAhead A seen 0 room → 0 < room → RecordIsToCome A seen
+record_to_come seen room r some =
+    let (fresh, fs, h, n, before, come) = r.here some in
+    let all = r.left fresh fs h n before come in
+    (fresh, fs, h, n, before, come, omega (arith, some, all))
+
+pub room_to_come : {A : Type 0} (seen : Seen) (room : ℕ) → RoomAhead A seen 0 room → RecordIsToCome A seen → 0 < room
+room_to_come seen room r (fresh, fs, h, n, before, come, some) =
+    let all = r.left fresh fs h n before come in
+    omega (arith, some, all)
 
 room_more : {A : Type 0} (seen : Seen) (used room size : ℕ) → size ≤ room → RoomAhead A seen used room → RoomAhead A seen (used + size) (room - size)
 room_more seen used room size enough r = record {

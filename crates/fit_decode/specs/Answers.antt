@@ -68,6 +68,13 @@ MessagesFollow A seen piece used records =
     × Learns (learn_all empty_environment before) (learn_all empty_environment before) (take used piece) records
     × (used + 6 ≤ n - length (records_bytes empty_environment before)))
 
+-- No byte was refused, whole records of a data section have come, and more of the section is to come after them: the next byte begins a
+-- record.
+abbrev pub RecordIsToCome : Type 0 → Seen → Type 0
+RecordIsToCome A seen =
+    (seen.refusal ≡ None) × (fs : List (FitFile A)) × (h : Header) × (n : ℕ) × (records : List (Record A))
+    × HasCome fs (at_data h n records []) seen.bytes × (length (records_bytes empty_environment records) < n)
+
 -- Messages are looked at ahead in this piece, after what was fed to a decoder, and were found in the first bytes of it, that many.
 pub record LookedAhead : Type 0 where
   pub fed : Seen

@@ -1,7 +1,7 @@
 -- A message without a field for a component has no number of it.
 use Rattle.fit_profile.proofs.Common.{◌≡◌, ℕ, List, ◌∷◌, None, true, false, inl, inr, refl, ap, sym, ◌∙◌, list_any, cases_Bool, or_parts, both_ways, Items}
 use Rattle.fit_profile.proofs.Common.{FieldDef, MessageDef, Values, first_field, number_in, number_of, Some, told_at, last_after, tell}
-use Rattle.fit_profile.proofs.Common.{Defined, Environment, defined_at, described_by, description, IsSomeAnd, Option, option_and_then, if◌then◌else◌}
+use Rattle.fit_profile.proofs.Common.{Defined, Environment, defined_at, described_by, description, option_and_then, if◌then◌else◌}
 use Rattle.std.proofs.Common.{◌==◌, ◌&&◌}
 use Rattle.std.specs.Prelude.{◌||◌}
 use Rattle.std.specs.Global.{Global}
@@ -94,13 +94,11 @@ pub describes-nothing : {A : Type 0} (e : Environment A) (p : Defined A) (v : Va
     → described_by e v ≡ None
 describes-nothing e p v known other = rw (known, other) refl
 
--- a field description tells more than a time
-pub describes-more : {A : Type 0} (o : Option (Defined A)) → IsSomeAnd o (λ p. (p.definition.global == 206) ≡ true)
-    → IsSomeAnd o (λ p. tells_more p.definition ≡ true)
-describes-more None h = absurd h
-describes-more (Some p) h = rw h refl
-
 -- a message of which its definition says that it describes nothing
 pub described_none : (e : Environment Global) (p : Defined Global) (v : Values Global) → defined_at e v.local ≡ Some p → description p.definition v ≡ None
     → described_by e v ≡ None
 described_none e p v known none = ap (option_and_then (λ q. description q.definition v)) known ∙ none
+
+pub none_described : (e : Environment Global) (p : Defined Global) (v : Values Global) → defined_at e v.local ≡ Some p → described_by e v ≡ None
+    → description p.definition v ≡ None
+none_described e p v known none = sym (ap (option_and_then (λ q. description q.definition v)) known) ∙ none

@@ -1,5 +1,5 @@
 -- Each definition in its place has its plan.
-use Rattle.fit_profile.proofs.Common.{◌≡◌, ℕ, zero, suc, List, [], ◌∷◌, ◌++◌, ◌<◌, ◌≤◌, length, take}
+use Rattle.fit_profile.proofs.Common.{◌≡◌, ℕ, zero, suc, List, [], ◌∷◌, ◌++◌, ◌<◌, length}
 use Rattle.fit_profile.proofs.Common.{get_or, refl, arith, reverse, subst, sym, ap, ◌∙◌, Option, Some, None, none-some}
 use Rattle.fit_profile.proofs.Common.{Defined, MessageDef, Values, Record, Environment, empty_environment, known, description, option_and_then, same_Some}
 use Rattle.std.specs.Prelude.{slice_index_or, ◌==◌, ◌&&◌, ◌||◌, not, IfSome, option_map}
@@ -7,7 +7,6 @@ use Rattle.std.specs.List.{list_any}
 use Rattle.std.proofs.Common.{Bool, true, false, eqb-true, ap₂}
 use Rattle.fit_record.specs.declared.definition.FieldDef.{FieldDef}
 use Rattle.fit_profile.specs.Accumulated.{is_counter}
-use Rattle.std.proofs.lemmas.List.{take_all}
 use Rattle.std.proofs.Common.{set, replicate}
 use Rattle.fit_record.proofs.SixteenPlaces.{sixteen_places}
 use Rattle.std.specs.Global.{Global}
@@ -71,11 +70,9 @@ more-none (suc n) [] (suc local) = more-none n [] local
 more-none n (plan ∷ plans) zero = refl
 more-none n (plan ∷ plans) (suc local) = more-none n plans local
 
--- places that hold no plan may stand after the others
-pub filled : (old new : List (Option Plan)) (m n : ℕ) → length old ≤ m → new ≡ take m old ++ replicate n None → (local : ℕ)
-    → slice_index_or new local None ≡ slice_index_or old local None
-filled old new m n short is local =
-    ap (λ plans. slice_index_or plans local None) (is ∙ ap (λ plans. plans ++ replicate n None) (take_all m old short)) ∙ more-none n old local
+-- a place that holds no plan may stand after the others
+pub one_more : (plans : List (Option Plan)) (local : ℕ) → slice_index_or (plans ++ None ∷ []) local None ≡ slice_index_or plans local None
+one_more plans local = more-none 1 plans local
 
 -- the environment of a file's records has sixteen places
 pub sixteen_of : (e : Environment Global) (records : List (Record Global)) → e ≡ known (reverse records) → length e.places ≡ 16

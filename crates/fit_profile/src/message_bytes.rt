@@ -1,5 +1,5 @@
 //! Data messages that a stream takes in by their bytes.
-ghost use Rattle.std.specs.Prelude.{◌≡◌, ◌==◌, ◌++◌, ◌∷◌, [], Bool, List, Option, length, true, false, IfOk, IfSome, IsSome, IsSomeAnd, None, Some, slice_index_or};
+ghost use Rattle.std.specs.Prelude.{◌≡◌, ◌++◌, ◌∷◌, [], Bool, List, Option, length, true, false, IfOk, IfSome, IsSome, None, Some, slice_index_or};
 ghost use Rattle.std.specs.declared.alloc.Global.{Global};
 ghost use Rattle.fit_record.specs.Environment.{defined_at, described_by, description};
 ghost use Rattle.fit_record.specs.Faults.{or_else};
@@ -209,7 +209,8 @@ fn lone_fields(
 fn describes(plan: &Plan, message: &MessageBytes<'_>) -> bool
     requires plan { IsPlan plan.now message.now.defined.now.definition }
     requires size { length message.now.body.now ≡ message_size message.now.defined.now }
-    ensures some { result ≡ true → (message.now.defined.now.definition.global == 206) ≡ true }
+    ensures some { result ≡ true
+        → description message.now.defined.now.definition (message_in message.now) ≡ None → ⊥ }
     ensures none { result ≡ false
         → description message.now.defined.now.definition (message_in message.now) ≡ None }
 {
@@ -242,7 +243,7 @@ pub(crate) fn take_telling(
     ensures last_kept { result ≡ None → last.new ≡ last.old }
     ensures records_kept { result ≡ None → records.new.items ≡ records.old.items }
     ensures describes { result ≡ None → (v : Values Global) → IsRecord env.now (Data v) bytes.now
-        → IsSomeAnd (defined_at env.now v.local) (λ p. (p.definition.global == 206) ≡ true) }
+        → described_by env.now v ≡ None → ⊥ }
 {
     let message = env.open(bytes);
     let plan = plan_of(plans, &message);

@@ -1,5 +1,5 @@
 //! What is found out once of a definition, so that a stream takes in its data messages quickly, as records or by their bytes.
-ghost use Rattle.std.specs.Prelude.{◌≡◌, ◌==◌, ◌&&◌, ◌≤◌, ◌<◌, ◌+◌, ℕ, List, Option, IfSome, IsOk, OnOk, length, max, None, option_copied, slice_index_or, slice_set, Some, not, true};
+ghost use Rattle.std.specs.Prelude.{◌≡◌, ◌==◌, ◌&&◌, ◌≤◌, ◌<◌, ◌+◌, ℕ, List, Option, IfSome, IsOk, OnOk, length, max, None, option_copied, slice_index_or, slice_set, Some, not, true, vec_capacity};
 ghost use Rattle.std.specs.List.{list_any};
 ghost use Rattle.fit_base.specs.BaseTypes.{base_type};
 ghost use Rattle.fit_base.specs.declared.number.Order.{Order};
@@ -150,10 +150,15 @@ fn fill(places: &mut Vec<Option<Plan>>) -> Result<(), AllocError>
     ensures same { (local : ℕ) → slice_index_or places.new.items local None
         ≡ slice_index_or places.old.items local None }
     ensures room { OnOk result (16 ≤ length places.new.items) }
-    ensures few { OnOk result (length places.new.items ≤ max 16 (length places.old.items)) }
+    ensures memory { vec_capacity places.new ≤ max 16 (vec_capacity places.old) }
 {
-    if places.len() < 16 {
-        places.resize(16, None)?;
+    let count = places.len();
+    if count >= 16 {
+        return Ok(());
+    }
+    places.reserve_exact(16 - count)?;
+    while places.len() < 16 {
+        places.push_reserved(None);
     }
     Ok(())
 }
@@ -166,9 +171,10 @@ pub(crate) struct Plans {
 }
 
 impl Plans {
-    /// Nothing is defined.
+    /// Nothing is defined, and no memory is taken.
     pub fn new(alloc: Global) -> Plans
-        ensures { (local : ℕ) → slice_index_or result.places.items local None ≡ None }
+        ensures none { (local : ℕ) → slice_index_or result.places.items local None ≡ None }
+        ensures memory { vec_capacity result.places ≡ 0 }
     {
         Plans {
             places: Vec::new(alloc),
@@ -227,6 +233,7 @@ impl Plans {
         ensures same { (local : ℕ) → slice_index_or self.new.places.items local None
             ≡ slice_index_or self.old.places.items local None }
         ensures room { OnOk result (HasRoomFor self.new.places.items record_.now) }
+        ensures memory { vec_capacity self.new.places ≤ max 16 (vec_capacity self.old.places) }
         ensures free { (e : Environment Global) → DescribesNothing e record_.now → IsOk result }
     {
         match record_ {

@@ -1,12 +1,11 @@
 //! The records of a file, one after another, and what each message means by those before it.
-ghost use Rattle.std.specs.Prelude.{◌≡◌, ◌∷◌, [], OnOk, OnErr, IfOk, IfSome, IsOk, IsSome, IsSomeAnd, None, ⊤, MatchResult, Some, true, false, drop};
+ghost use Rattle.std.specs.Prelude.{◌≡◌, ◌∷◌, [], OnOk, OnErr, IfOk, IfSome, IsOk, IsSome, None, ⊤, MatchResult, Some, true, false, drop};
 ghost use Rattle.std.specs.Borrow.{sem};
 ghost use Rattle.std.specs.declared.alloc.Global.{Global};
 ghost use mathlib.Core.Option.{none};
 ghost use denote.Follow.{follows_so};
 ghost use Rattle.fit_record.specs.Environment.{DescribesNothing, defined_at};
 ghost use Rattle.fit_record.specs.declared.environment.Defined.{Defined};
-ghost use Rattle.fit_profile.specs.Accumulated.{tells_more};
 ghost use Rattle.fit_record.specs.Records.{Fits, IsRecord};
 ghost use Rattle.fit_record.specs.declared.message.Values.{Values};
 ghost use Rattle.fit_record.specs.declared.message.Record.TheVariants.{Values as Data};
@@ -246,11 +245,9 @@ impl Stream {
         ensures ok { OnOk result ((v : Values Global)
             → IsRecord (known self.old) (Data v) bytes.now → self.new ≡ Data v ∷ self.old) }
         ensures err { OnErr result (self.new ≡ self.old) }
-        // No memory is taken for a message that tells nothing but a time.
-        ensures free { (v : Values Global) (p : Defined Global)
-            → IsRecord (known self.old) (Data v) bytes.now
-            → defined_at (known self.old) v.local ≡ Some p → tells_more p.definition ≡ false
-            → IsOk result }
+        // No memory is taken for a message that describes no developer field.
+        ensures free { (v : Values Global) → IsRecord (known self.old) (Data v) bytes.now
+            → DescribesNothing (known self.old) (Data v) → IsOk result }
     {
         match self.take_telling(false, bytes) {
             Some(_) => Ok(()),
@@ -270,10 +267,9 @@ impl Stream {
         ensures taken { IsSome result → (v : Values Global)
             → IsRecord (known self.old) (Data v) bytes.now → self.new ≡ Data v ∷ self.old }
         ensures kept { result ≡ None → self.new ≡ self.old }
-        ensures more { result ≡ None → (v : Values Global)
+        ensures describes { result ≡ None → (v : Values Global)
             → IsRecord (known self.old) (Data v) bytes.now
-            → IsSomeAnd (defined_at (known self.old) v.local)
-            (λ p. tells_more p.definition ≡ true) }
+            → DescribesNothing (known self.old) (Data v) → ⊥ }
     {
         take_telling(
             &self.env,
@@ -315,10 +311,8 @@ impl Stream {
             → IsRecord (known self.old) (Data v) bytes.now
             → defined_at (known self.old) v.local ≡ Some p
             → IsTaken (telling.told self.old v) v p.definition t) }
-        ensures free { (v : Values Global) (p : Defined Global)
-            → IsRecord (known self.old) (Data v) bytes.now
-            → defined_at (known self.old) v.local ≡ Some p → tells_more p.definition ≡ false
-            → IsOk result }
+        ensures free { (v : Values Global) → IsRecord (known self.old) (Data v) bytes.now
+            → DescribesNothing (known self.old) (Data v) → IsOk result }
     {
         match self.take_telling(true, bytes) {
             Some(taken) => Ok(taken),

@@ -134,7 +134,7 @@ pub fn take_messages<T: MessageTaker>(
     ensures wants { OnErr result (MayLackMemoryIn Global IsAny decoder.old.bytes piece.now) }
     ensures viable { IsViable Global chain_limit decoder.new.bytes }
 {
-    if !begins_message(piece) {
+    if !begins_message(piece) || !decoder.begins_record() {
         return Ok(0);
     }
     let used = take_ahead(taker, decoder, piece, text)?;

@@ -201,8 +201,6 @@ pub struct Template {
     frames: Vec<Frame>,
     /// The end of the last row.
     end: Stamp,
-    /// About how many bytes of memory it takes.
-    memory: usize,
 }
 
 impl Model for Template {
@@ -246,10 +244,6 @@ impl Template {
         let fields = definition.fields.as_slice();
         let devs = kept.devs.as_slice();
         let (frames, end) = frames_and_end(pen, global, fields, devs)?;
-        let memory = kept
-            .memory()
-            .saturating_add(memory_of(frames.as_slice()))
-            .saturating_add(end.memory());
         Ok(Template {
             kept,
             line,
@@ -257,7 +251,6 @@ impl Template {
             label,
             frames,
             end,
-            memory,
         })
     }
 
@@ -272,7 +265,9 @@ impl Template {
 
     /// About how many bytes of memory it takes.
     pub(crate) fn memory(&self) -> usize {
-        self.memory
+        let frames = memory_of(self.frames.as_slice());
+        let rows = frames.saturating_add(self.end.memory());
+        rows.saturating_add(self.kept.memory())
     }
 
     /// How many rows each message has.

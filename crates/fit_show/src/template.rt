@@ -123,8 +123,6 @@ pub struct LineTemplate {
     head: Stamp,
     /// The fields and the developer fields.
     fields: Vec<ShownField>,
-    /// About how many bytes of memory it takes.
-    memory: usize,
 }
 
 impl Model for LineTemplate {
@@ -159,17 +157,12 @@ impl LineTemplate {
         let fields = definition.fields.as_slice();
         let (head, fields) = head_and_fields(alloc, definition.global, fields, devs)?;
         let (front, timed) = fronts(alloc, local, definition.global)?;
-        let memory = kept
-            .memory()
-            .saturating_add(memory_of(fields.as_slice()))
-            .saturating_add(head.memory());
         Ok(LineTemplate {
             kept,
             front,
             timed,
             head,
             fields,
-            memory,
         })
     }
 
@@ -239,7 +232,9 @@ impl Finding for LineTemplate {
     }
 
     fn memory(&self) -> usize {
-        self.memory
+        let fields = memory_of(self.fields.as_slice());
+        let lines = fields.saturating_add(self.head.memory());
+        lines.saturating_add(self.kept.memory())
     }
 }
 

@@ -41,6 +41,17 @@ pub trait Finding: Drop {
 /// How much memory what is found out of a definition takes at most, where it is kept beside that of others.
 const SHORT: usize = 65_536;
 
+/// Fewer fields than that are short, as their names are.
+const MANY_FIELDS: usize = 64;
+
+/// Whether what is found out of a definition may take much memory. It may where there are many fields, or developer fields, whose names are
+/// of any length.
+#[inline(always)]
+fn may_be_long(defined: &Defined) -> bool {
+    let definition = &defined.definition;
+    definition.dev.is_some() || definition.fields.len() >= MANY_FIELDS
+}
+
 /// What was found out of the definitions of a file, each at the place of its local message type. Of what takes much memory the last is
 /// kept alone: a definition of some 1,500 bytes may make half a megabyte.
 #[derive(Drop)]
@@ -123,6 +134,8 @@ impl<T: Finding> Findings<T> {
     }
 
     /// Where what was found for a local message type takes much memory, lets go that of another which does.
+    #[cold]
+    #[inline(never)]
     fn keep_one_long(&mut self, local: u8)
         ensures here { slice_get self.new.items.items local ≡ slice_get self.old.items.items local }
         ensures others { (other : ℕ) (found : T) → IsCurrent self.old other found
@@ -186,7 +199,9 @@ impl<T: Finding> Findings<T> {
         ensures current { AreCurrent T.found_of self.new stream.now }
     {
         self.find_in_place(tools, stream, local, defined)?;
-        self.keep_one_long(local);
+        if may_be_long(defined) {
+            self.keep_one_long(local);
+        }
         Ok(())
     }
 

@@ -1,11 +1,11 @@
 //! Looks at messages ahead, and skips them at once.
-ghost use Rattle.std.specs.Prelude.{◌≡◌, ℕ, ◌+◌, ◌<◌, ◌≤◌, List, ◌++◌, drop, length, map, take, None};
+ghost use Rattle.std.specs.Prelude.{◌≡◌, ◌↔◌, ℕ, ◌+◌, ◌<◌, ◌≤◌, List, ◌++◌, drop, length, map, take, IsTrue, None};
 ghost use Rattle.std.specs.Global.{Global};
 ghost use Rattle.fit_record.specs.Files.{chain_limit, IsViable};
 ghost use Rattle.fit_record.specs.declared.message.Record.{Record};
 ghost use Rattle.fit_chain.specs.Events.{Event as Told, AreEvents, item};
 ghost use Rattle.fit_chain.specs.Memory.{IsAny, MayLackMemoryIn};
-ghost use Rattle.fit_decode.specs.Answers.{MessageFollows, MessagesFollow, NextMessage};
+ghost use Rattle.fit_decode.specs.Answers.{MessageFollows, MessagesFollow, NextMessage, RecordIsToCome};
 ghost use Rattle.fit_decode.specs.inner.Aheads.{RoomAhead};
 
 use super::{Decoder, count_fed};
@@ -102,8 +102,17 @@ impl Decoder {
 }
 
 impl<A: Allocator + Copy> Decoder<A> {
+    /// Whether the next byte begins a record. Where it doesn't, no message can be skipped.
+    #[inline(always)]
+    pub fn begins_record(&self) -> bool
+        ensures { IsTrue result ↔ RecordIsToCome A self.now }
+    {
+        room_ahead(self) > 0
+    }
+
     /// Skips the data messages at the front of the piece that `look_ahead` has found: they count as fed, and no event is made of them.
     /// `used` is how many bytes they have, or 0. It refuses nothing, and takes no memory.
+    #[inline(always)]
     pub fn skip_messages(&mut self, piece: &[u8], used: usize)
         requires { (records : List (Record A)) × MessagesFollow A self.old piece.now used records }
         ensures used { self.new ≡ record self.old

@@ -1,12 +1,10 @@
 //! Data messages that a stream takes in by their bytes, without a look at their fields, or without another one.
-ghost use Rattle.std.specs.Prelude.{◌≡◌, ◌≢◌, ◌∷◌, false, IsOk, IsSomeAnd, IsTrue, OnErr, OnOk, Some};
+ghost use Rattle.std.specs.Prelude.{◌≡◌, ◌≢◌, ◌∷◌, false, IsOk, IsSomeAnd, IsTrue, OnErr, OnOk};
 ghost use Rattle.std.specs.declared.alloc.Global.{Global};
-ghost use Rattle.fit_record.specs.Environment.{defined_at};
+ghost use Rattle.fit_record.specs.Environment.{DescribesNothing, defined_at};
 ghost use Rattle.fit_record.specs.Records.{IsRecord};
-ghost use Rattle.fit_record.specs.declared.environment.Defined.{Defined};
 ghost use Rattle.fit_record.specs.declared.message.Values.{Values};
 ghost use Rattle.fit_record.specs.declared.message.Record.TheVariants.{Values as Data};
-ghost use Rattle.fit_profile.specs.Accumulated.{tells_more};
 ghost use Rattle.fit_profile.specs.Looks.{known};
 ghost use Rattle.fit_profile.specs.Opened.{TellsNext};
 
@@ -44,10 +42,9 @@ impl Stream {
         ensures ok { OnOk result ((v : Values Global)
             → IsRecord (known self.old) (Data v) bytes.now → self.new ≡ Data v ∷ self.old) }
         ensures err { OnErr result (self.new ≡ self.old) }
-        ensures free { (v : Values Global) (p : Defined Global)
-            → IsRecord (known self.old) (Data v) bytes.now
-            → defined_at (known self.old) v.local ≡ Some p → tells_more p.definition ≡ false
-            → IsOk result }
+        // No memory is taken for a message that describes no developer field.
+        ensures free { (v : Values Global) → IsRecord (known self.old) (Data v) bytes.now
+            → DescribesNothing (known self.old) (Data v) → IsOk result }
     {
         if tells.more {
             return self.take_message(bytes);

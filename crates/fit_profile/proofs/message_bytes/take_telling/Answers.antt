@@ -1,9 +1,8 @@
-use Rattle.fit_profile.proofs.Common.{◌≡◌, ◌∙◌, ◌++◌, ◌∷◌, [], sym, ap, subst, true, IsSomeAnd, None}
-use Rattle.fit_profile.proofs.Common.{defined_at, described_by, tell, last_after}
-use Rattle.std.proofs.Common.{◌==◌}
+use Rattle.fit_profile.proofs.Common.{◌≡◌, ◌∙◌, ◌++◌, ◌∷◌, [], sym, ap, subst, None}
+use Rattle.fit_profile.proofs.Common.{described_by, tell, last_after}
 use Rattle.fit_record.specs.MessageBytes.{message_in}
 use Rattle.fit_record.specs.declared.message.Record.TheVariants.{Values as Data}
-use Rattle.fit_profile.proofs.NoCounters.{tells, described_none}
+use Rattle.fit_profile.proofs.NoCounters.{tells, described_none, none_described}
 use Rattle.fit_profile.proofs.TakenMessages.{said_of_it}
 use Rattle.fit_profile.proofs.message_bytes.take_telling.Goals as goal
 
@@ -42,9 +41,9 @@ returns-clause-nothing c _ v is =
     (c.describes.ensures.none c.if-describes.false))
 
 pub returns-then-describes-clause-describes : goal.returns-then-describes-clause-describes
-returns-then-describes-clause-describes c _ v is =
+returns-then-describes-clause-describes c _ v is none =
     let m = c.open-message.result in
     let e = c.args.env.now in
-    subst (λ w. IsSomeAnd (defined_at e w.local) (λ p. (p.definition.global == 206) ≡ true)) (c.open-message.ensures.read v is)
-    (subst (λ o. IsSomeAnd o (λ p. (p.definition.global == 206) ≡ true)) (sym c.open-message.ensures.defined)
-    (c.describes.ensures.some c.if-describes.true))
+    c.describes.ensures.some c.if-describes.true
+    (none_described e m.defined.now (message_in m) c.open-message.ensures.defined
+    (subst (λ w. described_by e w ≡ None) (sym (c.open-message.ensures.read v is)) none))

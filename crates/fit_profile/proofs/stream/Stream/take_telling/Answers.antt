@@ -1,10 +1,8 @@
-use Rattle.fit_profile.proofs.Common.{◌≡◌, ◌∙◌, ◌∷◌, [], sym, ap, subst, reverse, reverse-append, inl, inr, true}
-use Rattle.fit_profile.proofs.Common.{KeepsRecords, IsSomeAnd, defined_at, known}
+use Rattle.fit_profile.proofs.Common.{◌≡◌, ◌∙◌, ◌∷◌, [], sym, ap, subst, reverse, reverse-append, inl, inr, None}
+use Rattle.fit_profile.proofs.Common.{KeepsRecords, described_by, known}
 use Rattle.std.proofs.lemmas.Option.{IfSome_then}
-use Rattle.fit_profile.specs.Accumulated.{tells_more}
 use Rattle.fit_record.specs.declared.message.Record.TheVariants.{Values as Data}
 use Rattle.fit_profile.proofs.Kept.{kept-record, keeps-last, not-first}
-use Rattle.fit_profile.proofs.NoCounters.{describes-more}
 use Rattle.fit_profile.proofs.TakenMessages.{defined_inside, said_now, some_or_none}
 use Rattle.fit_profile.proofs.stream.Stream.take_telling.Goals as goal
 
@@ -50,9 +48,8 @@ returns-clause-taken c taken v read =
 pub returns-clause-kept : goal.returns-clause-kept
 returns-clause-kept c left = ap reverse (c.take_telling.ensures.records_kept left) ∙ c.self.view_is
 
-pub returns-clause-more : goal.returns-clause-more
-returns-clause-more c left v read =
+pub returns-clause-describes : goal.returns-clause-describes
+returns-clause-describes c left v read none =
     let same = c.self.invariant.0.env_is ∙ ap known c.self.view_is in
-    subst (λ e. IsSomeAnd (defined_at e v.local) (λ p. tells_more p.definition ≡ true)) same
-    (describes-more (defined_at c.self.inside.env v.local)
-    (c.take_telling.ensures.describes left v (kept-record c.args.self.now (Data v) c.args.bytes.now c.self.invariant.0 c.self.view_is read)))
+    c.take_telling.ensures.describes left v (kept-record c.args.self.now (Data v) c.args.bytes.now c.self.invariant.0 c.self.view_is read)
+    (subst (λ e. described_by e v ≡ None) (sym same) none)

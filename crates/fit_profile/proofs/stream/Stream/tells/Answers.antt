@@ -1,4 +1,4 @@
-use Rattle.fit_profile.proofs.Common.{◌≡◌, ◌∙◌, ap, subst, sym, Some, defined_at, known}
+use Rattle.fit_profile.proofs.Common.{◌≡◌, ◌∙◌, ap, subst, sym}
 use Rattle.std.specs.Prelude.{IfSome}
 use Rattle.fit_record.specs.MessageBytes.{message_in}
 use Rattle.fit_profile.specs.Accumulated.{tells_more}
