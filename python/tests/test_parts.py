@@ -12,8 +12,6 @@ from support import RIDE, bytes_at, known, recording
 from fits import any_file
 
 import gazhdor
-from gazhdor._write.edits import Change, edit
-from gazhdor._write.joins import join
 
 START = 1147937400
 PLACES = 20
@@ -85,7 +83,7 @@ def part(data, begin, end):
     """The bytes of a part; None where no record is in it."""
     sink = io.BytesIO()
     try:
-        edit(data, sink, Change(begin=begin, end=end))
+        gazhdor.edit(data, sink, begin=begin, end=end)
     except ValueError as error:
         assert str(error) == "no record has a time in that span", error
         return None
@@ -94,7 +92,7 @@ def part(data, begin, end):
 
 def joined(parts):
     sink = io.BytesIO()
-    join(parts, sink, one=True)
+    gazhdor.join(parts, sink, one=True)
     return sink.getvalue()
 
 
