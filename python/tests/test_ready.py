@@ -128,8 +128,8 @@ class Adding(unittest.TestCase):
         old = one((3, UINT8, b"\x05"))
         with self.assertRaisesRegex(KeyError, "adding"):
             old.replace(power=5)
-        with self.assertRaisesRegex(KeyError, "is it 'power'"):
-            old.adding(pwoer=5)
+        with self.assertRaisesRegex(KeyError, "is it 'cadence'"):
+            old.adding(cadense=5)
         with self.assertRaises(gazhdor.WrongValue):
             old.adding(power=70000)
         with self.assertRaisesRegex(ValueError, "base type"):
