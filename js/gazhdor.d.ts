@@ -163,9 +163,11 @@ export class Message {
     readonly headerTime: Time | null
     /** The time offset of a compressed timestamp header, 0 to 31. */
     readonly timeOffset: number | null
-    /** Metres a second, of a record with `compressed_speed_distance`. */
+    /** Metres, of a record: its `enhanced_altitude`, else its `altitude`. */
+    readonly altitude: number | null
+    /** Metres a second, of a record: its `enhanced_speed`, else its `speed`, else that of `compressed_speed_distance`. */
     readonly speed: number | null
-    /** Metres, accumulated over the file from `compressed_speed_distance`. */
+    /** Metres, of a record: its `distance`, else what is accumulated over the file from `compressed_speed_distance`. */
     readonly distance: number | null
     /** Cycles, accumulated over the file. */
     readonly totalCycles: Whole | null
@@ -187,6 +189,9 @@ export class Message {
     /** Names and values, each field once; a field without a name is `field_N` or `dev_I_N`. */
     [Symbol.iterator](): IterableIterator<[string, Value]>
     toObject(): Record<string, Value>
+    /** The values by their labels, each of a type that databases and JSON have: times as Dates, places in degrees, words, several numbers as
+     * `name_0`, `name_1` and so on, bytes as text. A time that the device didn't know, and a number that isn't finite, are null. */
+    ready(): Record<string, Ready>
     /** What JSON.stringify takes: bytes as hexadecimal digits, numbers that are no exact ones as text. */
     toJSON(): Record<string, unknown>
 }
@@ -210,6 +215,8 @@ export interface Words {
     /** Whether a number that has a word is that word, as `cycling` for a sport. */
     words?: boolean
 }
+/** What `ready` gives. */
+export type Ready = number | string | Date | null
 export type StreamKind = "check" | "show" | "table" | "toCsv" | "blocks" | "messages"
 
 /** An instance of the module. Each call throws OutOfMemory where the engine gives no more memory. */
@@ -236,11 +243,15 @@ export class Gazhdor {
     fromBlocks(blocks: Bytes): Uint8Array
     /** The good messages of a file that was cut or damaged as a file of their own, with the files before it. */
     mend(source: Bytes): Uint8Array
-    /** A Message for each data message. */
+    /** A Message for each data message; with `ready` its values, as `Message.ready` gives them. */
+    messages(source: Bytes, options: Partial & Only & Words & { ready: true }): IterableIterator<Record<string, Ready>>
     messages(source: Bytes, options?: Partial & Only & Words): IterableIterator<Message>
     /** The values of fields in all messages of a name or number, in their order. Without `fields` it is each field that one of them has.
      * `timestamp` is the time of the message in milliseconds since 1970; `.latitude` and `.longitude` are in degrees; `.file`, `.place`, `.local`,
-     * `.seconds`, `.time`, `.speed`, `.distance`, `.total_cycles`, `.accumulated_power` are what the message tells of itself. */
+     * `.seconds`, `.time`, `.total_cycles`, `.accumulated_power` are what the message tells of itself; `.altitude`, `.speed` and `.distance` are
+     * as in the table. With `ready` times are milliseconds since 1970, places degrees, several numbers columns `name_0`, `name_1` and so on,
+     * and words, texts and bytes texts. */
+    columns(source: Bytes, message: Kind, fields: Iterable<Key> | undefined, options: Partial & Words & { ready: true }): Record<string, Column>
     columns(source: Bytes, message: Kind, fields?: Iterable<Key>, options?: Partial & Words): Record<string, Column>
     columns<Name extends string>(source: Bytes, message: Kind, fields: readonly Name[], options?: Partial & Words): Record<Name, Column>
     /** For `pipeThrough`: bytes go in, and messages, texts or blocks come out; of "check" the bytes themselves. */

@@ -7,7 +7,7 @@
  * Each request has a number of the caller's, a call of Gazhdor and its words; the answer has the same number and what the call made, or an
  * error: its name, text, place, reason and explanation. Messages and rows come as arrays of plain objects. A Worker that takes too long is ended
  * by `terminate`. In Node it is a Worker of node:worker_threads. */
-import { open } from "./gazhdor.mjs"
+import { Message, open } from "./gazhdor.mjs"
 
 const CALLS = ["check", "table", "tableText", "toCsv", "show", "fromCsv", "blocks", "fromBlocks", "mend", "messages", "columns"]
 const isBrowser = globalThis.WorkerGlobalScope !== undefined
@@ -15,10 +15,12 @@ const port = isBrowser ? globalThis : (await import(/* webpackIgnore: true */ /*
 
 let opened = open()
 
+const sent = message => ({ ...message.toJSON(), fields: message.toObject(), time: message.time })
+
 /* What can be sent to another thread of what a call made. */
 function plain(call, made) {
     if (call === "check") return { ...made, text: `${made}`, explanation: made.explanation }
-    if (call === "messages") return Array.from(made, message => ({ ...message.toJSON(), fields: message.toObject(), time: message.time }))
+    if (call === "messages") return Array.from(made, message => (message instanceof Message ? sent(message) : { ...message }))
     return call === "table" ? [...made] : made
 }
 
@@ -27,7 +29,8 @@ function memory(made) {
     return (made instanceof Uint8Array ? [made] : Object.values(made ?? {})).filter(part => ArrayBuffer.isView(part)).map(part => part.buffer)
 }
 
-async function answer({ number, call, words }) {
+async function answer(request) {
+    const { number, call, words = [] } = Object(request)
     try {
         if (!CALLS.includes(call)) throw new TypeError(`there is no call ${call}`)
         const gazhdor = await opened

@@ -1,11 +1,13 @@
 /* Columns of messages: typed arrays, filled from blocks where they lie in the module's memory. */
 import { OutOfMemory, TooManyCells } from "./answers.mjs"
-import { SYSTEM_TIMES, degrees, milliseconds } from "./messages.mjs"
+import { MERGED, merged } from "./messages.mjs"
 import {
     AT_FILE, AT_MESSAGE_CYCLES, AT_MESSAGE_DISTANCE, AT_MESSAGE_LOCAL, AT_MESSAGE_POWER, AT_MESSAGE_SPEED,
     AT_MESSAGE_TIME, AT_PLACE, FLOAT, NO_TIME, SIGNED, UNSIGNED,
 } from "./numbers.mjs"
+import { SYSTEM_TIMES, degrees, milliseconds } from "./plain.mjs"
 import { UnknownName, fieldsOf } from "./profile.mjs"
+import { readyColumns } from "./ready.mjs"
 import { labelOf, scaler } from "./values.mjs"
 
 /* So many cells may be there, however few of them have something, and so many times those that have. */
@@ -35,11 +37,17 @@ const COUNTED = {
 }
 const POSITIONS = { ".latitude": "position_lat", ".longitude": "position_long" }
 const TIMES = ["timestamp", ".time"]
-const SELF = [...Object.keys(OWN), ...Object.keys(COUNTED), ...Object.keys(POSITIONS), ".time"]
+const TABLE = Object.fromEntries(Object.keys(MERGED).map(name => [`.${name}`, name]))
+const SELF = [...Object.keys(OWN), ...Object.keys(COUNTED), ...Object.keys(TABLE), ...Object.keys(POSITIONS), ".time"]
 
 /* What a column takes of each message of a definition. */
 function entryOf(definition, key) {
     if (Object.hasOwn(OWN, key)) return OWN[key]
+    if (Object.hasOwn(TABLE, key)) {
+        const counted = definition.isCounted && Object.hasOwn(COUNTED, key) ? [COUNTED[key]] : []
+        const [first, ...others] = [...merged(definition, TABLE[key]), ...counted]
+        return first && { ...first, isNumber: true, others }
+    }
     if (Object.hasOwn(COUNTED, key)) return definition.isCounted ? COUNTED[key] : undefined
     return Object.hasOwn(POSITIONS, key) ? inDegrees(definition.entry(POSITIONS[key])) : definition.entry(key)
 }
@@ -120,6 +128,14 @@ class Column {
             return
         }
         this.#fill(views, run, row, entry)
+        for (const other of entry.others ?? []) this.#fillGaps(views, run, row, other)
+    }
+
+    /* The numbers of another field, where there are none. */
+    #fillGaps(views, run, row, entry) {
+        const kept = this.#numbers.slice(row, this.#length)
+        this.#fill(views, run, row, entry)
+        for (const [k, number] of kept.entries()) if (!Number.isNaN(number)) this.#numbers[row + k] = number
     }
 
     #fill(views, { begin, end, length }, row, entry) {
@@ -131,6 +147,7 @@ class Column {
         if (width === 8) for (let k = row; k < row + rows; k++, at += step) numbers[k] = bits[at] === invalid ? NaN : Number(scaled(items[at]))
         else if (entry.kind === FLOAT) for (let k = row; k < row + rows; k++, at += step) numbers[k] = bits[at] === invalid ? NaN : scaled(items[at])
         else for (let k = row; k < row + rows; k++, at += step) numbers[k] = bits[at] === invalid ? NaN : (items[at] - shift) / scale
+        if (entry.isTime) for (let k = row; k < row + rows; k++) numbers[k] = numbers[k] < SYSTEM_TIMES ? NaN : milliseconds(numbers[k])
         if (entry.factor !== undefined) for (let k = row; k < row + rows; k++) numbers[k] *= entry.factor
         this.#length = row + rows
     }
@@ -151,11 +168,14 @@ export class Columns {
     #rows = 0
     #filled = 0 // cells of fields that have bytes
     #message
+    #ready
+    #asked = new Set() // the labels of those keys that have a column
 
-    constructor(message, fields) {
+    constructor(message, fields, ready = false) {
+        this.#ready = ready
         if (typeof fields === "string" || typeof fields === "number") throw new TypeError("the fields are a list of names, and not one name")
         this.#keys = fields === undefined || fields === null ? null : [...fields]
-        for (const key of this.#keys ?? ["timestamp"]) this.#column(labelOf(key))
+        for (const key of this.#keys ?? ["timestamp"]) if (!ready || TIMES.includes(key)) this.#column(labelOf(key))
         this.#message = message
     }
 
@@ -194,10 +214,17 @@ export class Columns {
             found = (this.#keys ?? ["timestamp", ...labels])
                 .map(key => [labelOf(key), TIMES.includes(key) ? null : entryOf(definition, key)])
                 .filter(([, entry]) => entry !== undefined)
+                .flatMap(([label, entry]) => this.#spread(definition, label, entry))
                 .map(([label, entry]) => [this.#column(label), entry])
             this.#parts.set(definition, found)
         }
         return found
+    }
+
+    /* The columns of a field, of which there may be several where they are ready to use. */
+    #spread(definition, label, entry) {
+        this.#asked.add(label)
+        return this.#ready && entry !== null ? readyColumns(definition, label, entry) : [[label, entry]]
     }
 
     /* Throws UnknownName for a name that neither the profile has for these messages nor one of those that came. */
@@ -211,6 +238,7 @@ export class Columns {
 
     done() {
         this.#seeNames()
+        for (const key of this.#keys ?? []) if (!this.#asked.has(labelOf(key))) this.#column(labelOf(key))
         const found = Object.create(null)
         for (const [label, column] of this.#columns) found[label] = column.done(this.#rows)
         if (this.#keys === null && found.timestamp.every(Number.isNaN)) delete found.timestamp

@@ -3,7 +3,8 @@ import { FitError, judge, judgeBlocks } from "./answers.mjs"
 import { Columns } from "./columns.mjs"
 import { Core, copied, decoded } from "./core.mjs"
 import { mended } from "./mend.mjs"
-import { Walk, when } from "./messages.mjs"
+import { Walk } from "./messages.mjs"
+import { when } from "./plain.mjs"
 import { PIECE, bytesOf, pieces } from "./sources.mjs"
 import { Pipe, Stream, coreOf, transform } from "./streams.mjs"
 
@@ -82,10 +83,11 @@ export class Gazhdor {
         return rowsOf(rows)
     }
 
-    /* A Message for each data message, or for those that are asked for. */
+    /* A Message for each data message, or for those that are asked for; with `ready` an object of its values. */
     messages(source, options = {}) {
         const walk = new Walk(options.only, options.words)
-        return this.#each("messages", source, options, blocks => walk.messages(blocks))
+        const made = blocks => walk.messages(blocks)
+        return this.#each("messages", source, options, options.ready ? blocks => made(blocks).map(message => message.ready()) : made)
     }
 
     /* What is made of all bytes, piece by piece. Without `partial` a fault is thrown at once, else after what comes before it. */
@@ -96,9 +98,9 @@ export class Gazhdor {
     }
 
     /* A typed array for each of some fields of the messages of one name or number. */
-    columns(source, message, fields, { partial = false, words = false } = {}) {
+    columns(source, message, fields, { partial = false, words = false, ready = false } = {}) {
         if (typeof message !== "string" && typeof message !== "number") throw new TypeError("a message is named by its name or its number")
-        const walk = new Walk(message, words), columns = new Columns(message, fields), bytes = bytesOf(source)
+        const walk = new Walk(message, words || ready), columns = new Columns(message, fields, ready), bytes = bytesOf(source)
         try {
             for (const _ of each(new Pipe(this.#core, "blocks"), bytes, blocks => [columns.take(blocks, walk.runs(blocks))]));
         } catch (error) {

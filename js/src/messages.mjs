@@ -5,26 +5,23 @@ import {
     AT_MESSAGE_OFFSET, AT_MESSAGE_POWER, AT_MESSAGE_SPEED, AT_MESSAGE_TIME, AT_PLACE, DEFINITION, MESSAGE, NO_OFFSET,
     TOLD_CYCLES, TOLD_DISTANCE, TOLD_HEADER_TIME, TOLD_POWER, TOLD_SPEED, TOLD_TIME,
 } from "./numbers.mjs"
+import { degrees, hex, when } from "./plain.mjs"
 import { seeMessage } from "./profile.mjs"
+import { readyOf } from "./ready.mjs"
 import { Definition, exactOf, rawOf, whole } from "./values.mjs"
 import { wordOf } from "./words.mjs"
 
-const EPOCH = 631065600 // 1989-12-31T00:00:00 UTC, in seconds since 1970
-export const SYSTEM_TIMES = 0x10000000 // A time below is the device's own, which didn't know the time of day.
+export { degrees, when }
 
-/* Seconds since 1989-12-31T00:00:00 UTC as milliseconds since 1970, as a Date has them. */
-export const milliseconds = seconds => (seconds + EPOCH) * 1000
+/* What the table has of a record: the fields by their numbers, the first that has a value, and else what is accumulated. */
+const RECORD = 20
+export const MERGED = { altitude: [78, 2], speed: [73, 6], distance: [5] }
 
-/* The time that a field of type date_time stands for, in seconds since 1989-12-31T00:00:00 UTC: a Date; below 268,435,456 the text
- * "system+N", as the device didn't know the time; null where there is none. */
-export function when(seconds) {
-    if (seconds === null || seconds === undefined) return null
-    if (typeof seconds !== "number") throw new TypeError(`a time is a number of seconds, and not ${typeof seconds}`)
-    return seconds < SYSTEM_TIMES ? `system+${seconds}` : new Date(milliseconds(seconds))
+/* Those of these fields that the messages of a definition have as one number. */
+export function merged(definition, name) {
+    if (definition.number !== RECORD) return []
+    return MERGED[name].map(number => definition.entry(number)).filter(entry => entry?.isNumber)
 }
-
-/* Degrees of semicircles, of which 2^31 are 180 degrees. */
-export const degrees = semicircles => semicircles * (180 / 2 ** 31)
 
 /* A field of a message. */
 export class Field {
@@ -104,8 +101,21 @@ export class Message {
     #told(bit) { return (this.#part.bytes[this.#at + AT_MESSAGE_BITS] & bit) !== 0 }
     #amount(bit, at) { return this.#told(bit) ? this.#part.view.getBigUint64(this.#at + at, true) : null }
 
-    get speed() { return this.#told(TOLD_SPEED) ? Number(this.#amount(TOLD_SPEED, AT_MESSAGE_SPEED)) / 100 : null }
-    get distance() { return this.#told(TOLD_DISTANCE) ? Number(this.#amount(TOLD_DISTANCE, AT_MESSAGE_DISTANCE)) / 16 : null }
+    get #ownSpeed() { return this.#told(TOLD_SPEED) ? Number(this.#amount(TOLD_SPEED, AT_MESSAGE_SPEED)) / 100 : null }
+    get #ownDistance() { return this.#told(TOLD_DISTANCE) ? Number(this.#amount(TOLD_DISTANCE, AT_MESSAGE_DISTANCE)) / 16 : null }
+
+    /* The first of the fields that the table asks which has a value, as a number. */
+    #merged(name) {
+        for (const entry of merged(this.#definition, name)) {
+            const value = entry.read(this.#part, this.#at)
+            if (value !== null) return Number(value)
+        }
+        return null
+    }
+
+    get altitude() { return this.#merged("altitude") }
+    get speed() { return this.#merged("speed") ?? this.#ownSpeed }
+    get distance() { return this.#merged("distance") ?? this.#ownDistance }
     get totalCycles() { return this.#told(TOLD_CYCLES) ? whole(this.#amount(TOLD_CYCLES, AT_MESSAGE_CYCLES)) : null }
     get accumulatedPower() { return this.#told(TOLD_POWER) ? whole(this.#amount(TOLD_POWER, AT_MESSAGE_POWER)) : null }
 
@@ -127,13 +137,17 @@ export class Message {
         return found
     }
 
+    /* The values by their labels, each of a type that databases and JSON have. */
+    ready() { return readyOf(this.#definition, this.#part, this.#at, this.seconds) }
+
     /* As JSON has it: bytes as hexadecimal digits, whole numbers that are no exact number as text, and null for what is no finite number. */
     toJSON() {
         const { number, file, place, local, time } = this, fields = Object.create(null), units = Object.create(null)
         for (const [label, value] of this) fields[label] = plain(value)
         for (const [label, entry] of this.#definition.labels) if (entry.unit !== null) units[label] = entry.unit
         const told = { message: this.name ?? `message_${number}`, number, file, place, local, time: time instanceof Date ? isoText(time) : time }
-        for (const name of ["speed", "distance", "totalCycles", "accumulatedPower"]) if (this[name] !== null) told[name] = plain(this[name])
+        const counted = { speed: this.#ownSpeed, distance: this.#ownDistance, totalCycles: this.totalCycles, accumulatedPower: this.accumulatedPower }
+        for (const [name, amount] of Object.entries(counted)) if (amount !== null) told[name] = plain(amount)
         return { ...told, fields, units }
     }
 }
@@ -148,7 +162,7 @@ const isoText = time => time.toISOString().replace(".000Z", "Z")
 function plain(value) {
     if (Array.isArray(value)) return value.map(plain)
     if (typeof value === "bigint") return String(value)
-    return value instanceof Uint8Array ? `0x${Array.from(value, byte => byte.toString(16).toUpperCase().padStart(2, "0")).join("")}` : value
+    return value instanceof Uint8Array ? hex(value) : value
 }
 
 const MOST = 1 << 20 // So many bytes of definitions are kept, beside the current ones.

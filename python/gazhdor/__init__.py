@@ -53,6 +53,9 @@ from ._times import when
 from ._write.csv_advice import advice as _advice
 from ._write.definitions import FieldDefinition
 from ._write.field_shapes import DeveloperField
+from ._write.activities import activity
+from ._write.edits import edit
+from ._write.joins import join
 from ._write.mending import mend
 from ._write.message_writer import Definition
 from ._write.sinks import Sink, Writable
@@ -88,6 +91,9 @@ __all__ = [
     "from_csv",
     "gpx",
     "mend",
+    "edit",
+    "join",
+    "activity",
     "messages",
     "lists",
     "columns",

@@ -5,7 +5,7 @@ use crate::developer::Developer;
 use crate::draft::Draft;
 use crate::entry::{in_text, Entry};
 use crate::field::Field;
-use crate::message::Fields;
+use crate::message::{Fields, Message};
 use crate::names::{Named, Names};
 use crate::numbers::{
     AT_DEFINITION_ARCHITECTURE, AT_DEFINITION_BITS, AT_DEFINITION_DEVELOPERS, AT_DEFINITION_FIELDS,
@@ -153,6 +153,27 @@ impl<'a> Definition<'a> {
         put(&mut block, AT_MESSAGE_HEADER_TIME, &u64::from(NO_TIME).to_le_bytes());
         let mut made = Draft::new(block, &self.block, self.names, self.is_free);
         made.clear();
+        made
+    }
+
+    /// A message of this definition that has what another one has in fields of the same number, base type and size; so a message gets a field
+    /// which it hasn't:
+    ///
+    /// ```
+    /// # std::env::set_current_dir(env!("GAZHDOR_RIDES")).unwrap();
+    /// # let ride = std::fs::read("ride.fit").unwrap();
+    /// let messages = gazhdor::messages(&ride).unwrap();
+    /// let record = messages.iter().find(|message| message.name() == Some("record")).unwrap();
+    /// let wider = record.definition().with("heart_rate", 1)?;
+    /// let made = wider.filled(&record).with("heart_rate", 120)?;
+    /// assert_eq!(made.field("heart_rate").unwrap().value(0), Some(120.0));
+    /// assert_eq!(made.field("altitude").unwrap().value(0), record.value("altitude"));
+    /// # Ok::<(), gazhdor::Unfit>(())
+    /// ```
+    #[must_use]
+    pub fn filled(&self, message: &Message<'_>) -> Draft<'_> {
+        let mut made = self.message();
+        made.fill(message);
         made
     }
 

@@ -4,7 +4,10 @@ use crate::field::{Field, Raw, Value};
 use crate::items;
 use crate::message::{Fields, Message};
 use crate::names::Names;
-use crate::numbers::{AT_MESSAGE_OFFSET, NO_OFFSET};
+use crate::numbers::{
+    AT_MESSAGE_BITS, AT_MESSAGE_DEFINITION, AT_MESSAGE_HEADER_TIME, AT_MESSAGE_ITEMS, AT_MESSAGE_OFFSET, NO_OFFSET,
+    TOLD_HEADER_TIME, TOLD_TIME,
+};
 use crate::time::Time;
 use crate::value_error::{label, Unfit};
 use std::fmt::{self, Debug, Formatter};
@@ -213,6 +216,22 @@ impl<'a> Draft<'a> {
     #[must_use]
     pub fn fields(&self) -> Fields<'_> {
         self.message().fields()
+    }
+
+    /// Takes over what a message has: its time, where it stands, and the items of each field that is the same.
+    pub(crate) fn fill(&mut self, message: &Message<'_>) {
+        let block = message.block();
+        self.block[AT_MESSAGE_BITS] = block[AT_MESSAGE_BITS] & (TOLD_TIME | TOLD_HEADER_TIME);
+        self.block[AT_MESSAGE_OFFSET..AT_MESSAGE_DEFINITION].copy_from_slice(&block[AT_MESSAGE_OFFSET..AT_MESSAGE_DEFINITION]);
+        self.block[AT_MESSAGE_HEADER_TIME..AT_MESSAGE_ITEMS].copy_from_slice(&block[AT_MESSAGE_HEADER_TIME..AT_MESSAGE_ITEMS]);
+        let key = |field: &Field<'_>| (field.developer(), field.number(), field.base_type(), field.width() * field.count());
+        for field in Entries::new(self.definition).map(|entry| Field::new(entry, &[], &[])) {
+            let old = message.fields().find(|old| key(old) == key(&field)).map(|old| old.bytes());
+            let items = self.block.get_mut(field.begins()..field.begins() + field.width() * field.count());
+            if let (Some(items), Some(old)) = (items, old.filter(|old| old.len() == field.width() * field.count())) {
+                items.copy_from_slice(old);
+            }
+        }
     }
 
     /// Leaves no field a value.

@@ -93,6 +93,17 @@ impl<'a> Field<'a> {
         Field { entry, items: message.get(first..end).unwrap_or(&[]), named: None, home }
     }
 
+    /// The same field in the block of another message of its definition.
+    pub(crate) fn of(self, message: &'a [u8]) -> Field<'a> {
+        let other = Field::new(self.entry, self.home.0, message);
+        Field { named: self.named, home: (self.home.0, message, self.home.2), ..other }
+    }
+
+    /// Its value, where it is one number.
+    pub(crate) fn lone(&self) -> Option<f64> {
+        if self.is_lone_number() { self.value(0) } else { None }
+    }
+
     /// The field by what these names say of it, in a message of this number.
     pub(crate) fn named(self, names: &'a Names, message: u16) -> Field<'a> {
         let named = if self.developer().is_none() { names.field(message, self.number()) } else { None };

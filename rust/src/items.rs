@@ -9,6 +9,7 @@ pub(crate) fn number(field: &Field<'_>, value: Value<'_>) -> Result<u64, Unfit> 
         _ if field.kind() == STRING => Err(kind(field, &value, "a text")),
         _ if field.kind() == BYTES => Err(kind(field, &value, "bytes")),
         Value::None => Ok(field.invalid()),
+        Value::Float(number) if number.is_nan() => Ok(field.invalid()),
         Value::Unsigned(_) | Value::Signed(_) | Value::Float(_) if field.kind() == FLOAT => float(field, value),
         Value::Unsigned(whole) => step(field, value, field.measure().nearest_to_whole(whole.into())),
         Value::Signed(whole) => step(field, value, field.measure().nearest_to_whole(whole.into())),
@@ -30,7 +31,7 @@ pub(crate) fn all(field: &Field<'_>, value: Value<'_>) -> Result<Vec<u8>, Unfit>
         (STRING, Value::Bytes(bytes)) => texts(field, bytes, value),
         (STRING, _) => Err(kind(field, &value, "a text")),
         (BYTES, Value::None) => Ok(vec![field.invalid() as u8; field.count()]),
-        (BYTES, Value::Bytes(bytes)) => as_they_are(field, bytes, value),
+        (BYTES, Value::Bytes(bytes)) => as_they_are(field, bytes),
         (BYTES, _) => Err(kind(field, &value, "bytes")),
         (_, Value::None) => Ok(repeated(field, field.invalid())),
         (_, Value::Unsigned(_) | Value::Signed(_) | Value::Float(_)) if field.count() != 1 => {
@@ -109,7 +110,7 @@ fn float(field: &Field<'_>, value: Value<'_>) -> Result<u64, Unfit> {
         _ => return Err(kind(field, &value, "a number")),
     };
     let is_narrow = field.width() == 4;
-    if exact.is_nan() || (is_narrow && near.is_infinite() && exact.is_finite()) {
+    if is_narrow && near.is_infinite() && exact.is_finite() {
         let most = if is_narrow { format!("{:e}", f32::MAX) } else { format!("{:e}", f64::MAX) };
         return Err(Unfit::Range { field: label(field), value: shown(&value), least: format!("-{most}"), most });
     }
@@ -130,12 +131,9 @@ fn texts(field: &Field<'_>, text: &[u8], value: Value<'_>) -> Result<Vec<u8>, Un
     Ok(items)
 }
 
-fn as_they_are(field: &Field<'_>, bytes: &[u8], value: Value<'_>) -> Result<Vec<u8>, Unfit> {
+fn as_they_are(field: &Field<'_>, bytes: &[u8]) -> Result<Vec<u8>, Unfit> {
     if bytes.len() != field.count() {
         return Err(Unfit::Length { field: label(field), length: bytes.len(), room: field.count() });
-    }
-    if field.invalid() == 0xFF && !bytes.is_empty() && bytes.iter().all(|&byte| byte == 0xFF) {
-        return Err(kind(field, &value, "bytes that aren't all 0xFF"));
     }
     Ok(bytes.to_vec())
 }

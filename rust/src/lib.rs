@@ -41,6 +41,7 @@ mod message;
 mod names;
 mod numbers;
 mod profile;
+mod ready;
 mod reason;
 mod streams;
 #[cfg(test)]
@@ -60,8 +61,9 @@ pub use event::{Checksum, Event, Events, Header};
 pub use fault::{Fault, Stopped};
 pub use field::{Field, Raw, Value};
 pub use library::{Bytes, Text};
-pub use message::{Fields, Iter, Message, Messages};
+pub use message::{Fields, Iter, Message, Messages, Place};
 pub use names::{Named, Names, NamesFault};
+pub use ready::Ready;
 pub use reason::Reason;
 pub use streams::{Made, ReadFault, Reading, Stream};
 pub use time::Time;

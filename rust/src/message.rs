@@ -12,10 +12,13 @@ use crate::numbers::{
     AT_MESSAGE_SPEED, AT_MESSAGE_TIME, AT_PLACE, NO_OFFSET, TOLD_CYCLES, TOLD_DISTANCE, TOLD_HEADER_TIME, TOLD_POWER,
     TOLD_SPEED, TOLD_TIME,
 };
+use crate::ready::{self, Ready};
 use crate::time::Time;
 use crate::value_error::Unfit;
 use std::fmt::{self, Debug, Formatter};
 use std::iter::FusedIterator;
+
+const RECORD: u16 = 20;
 
 /// The messages of a file or a chain of files, which [`messages`](crate::messages) has made, or of a piece of it, by a
 /// [`Stream`](crate::Stream). They are freed when this is dropped.
@@ -190,16 +193,30 @@ impl<'a> Message<'a> {
         Some(self.block[AT_MESSAGE_OFFSET]).filter(|&offset| offset != NO_OFFSET)
     }
 
-    /// Metres a second, of a record with `compressed_speed_distance`.
+    /// Metres, of a record: its `enhanced_altitude`, else its `altitude`.
     #[must_use]
-    pub fn speed(&self) -> Option<f64> {
-        self.amount(TOLD_SPEED, AT_MESSAGE_SPEED).map(|speed| speed as f64 / 100.0)
+    pub fn altitude(&self) -> Option<f64> {
+        self.first_of(&[78, 2])
     }
 
-    /// Metres, accumulated over the file from `compressed_speed_distance`; none in a message without it.
+    /// Metres a second, of a record: its `enhanced_speed`, else its `speed`, else that of `compressed_speed_distance`.
+    #[must_use]
+    pub fn speed(&self) -> Option<f64> {
+        let compressed = || self.amount(TOLD_SPEED, AT_MESSAGE_SPEED).map(|speed| speed as f64 / 100.0);
+        self.first_of(&[73, 6]).or_else(compressed)
+    }
+
+    /// Metres, of a record: its `distance`, else what is accumulated over the file from `compressed_speed_distance`.
     #[must_use]
     pub fn distance(&self) -> Option<f64> {
-        self.amount(TOLD_DISTANCE, AT_MESSAGE_DISTANCE).map(|distance| distance as f64 / 16.0)
+        let counted = || self.amount(TOLD_DISTANCE, AT_MESSAGE_DISTANCE).map(|distance| distance as f64 / 16.0);
+        self.first_of(&[5]).or_else(counted)
+    }
+
+    /// What the first of these fields of a record has as one number.
+    fn first_of(&self, numbers: &[u8]) -> Option<f64> {
+        let is_record = self.number() == RECORD;
+        numbers.iter().filter(|_| is_record).find_map(|&number| self.numbered(number)?.lone())
     }
 
     /// Cycles, accumulated over the file; none in a message without them.
@@ -247,6 +264,46 @@ impl<'a> Message<'a> {
     #[must_use]
     pub fn developer(&self, index: u8, number: u8) -> Option<Field<'a>> {
         self.fields().find(|field| field.developer() == Some(index) && field.number() == number)
+    }
+
+    /// Where the first field of this name stands in the messages of its definition: what is looked up once, for [`at`](Message::at).
+    #[must_use]
+    pub fn look_up(&self, name: &str) -> Option<Place<'a>> {
+        self.field(name).map(|field| Place { field })
+    }
+
+    /// The field at a place; none where the message is of another definition than that where the place was looked up. Then it is looked up
+    /// again:
+    ///
+    /// ```
+    /// # std::env::set_current_dir(env!("GAZHDOR_RIDES")).unwrap();
+    /// # let ride = std::fs::read("ride.fit").unwrap();
+    /// let messages = gazhdor::messages(&ride).unwrap();
+    /// let (mut altitude, mut sum) = (None, 0.0);
+    /// for record in messages.iter().filter(|message| message.number() == 20) {
+    ///     if !altitude.map_or(false, |place| record.has(place)) {
+    ///         altitude = record.look_up("altitude");
+    ///     }
+    ///     sum += altitude.and_then(|place| record.at(place)?.value(0)).unwrap_or(0.0);
+    /// }
+    /// assert_eq!(sum.round(), 60250.0);
+    /// ```
+    #[must_use]
+    pub fn at(&self, place: Place<'a>) -> Option<Field<'a>> {
+        self.has(place).then(|| place.field.of(self.block))
+    }
+
+    /// Whether a place is one of the definition of this message.
+    #[must_use]
+    pub fn has(&self, place: Place<'_>) -> bool {
+        std::ptr::eq(place.field.definition().as_ptr(), self.definition.as_ptr())
+    }
+
+    /// The values by their labels, each of a type that databases and JSON have: times, places in degrees, words, several numbers as `name_0`,
+    /// `name_1` and so on, bytes as text.
+    #[must_use]
+    pub fn ready(&self) -> Vec<(String, Ready)> {
+        ready::of(self)
     }
 
     /// The first number of the first field of this name: `field(name)?.value(0)`.
@@ -315,6 +372,12 @@ impl Debug for Message<'_> {
         all.field("name", &self.name()).field("number", &self.number()).field("file", &self.file());
         all.field("place", &self.place()).field("time", &self.time()).field("fields", &self.fields()).finish()
     }
+}
+
+/// Where a field stands in the messages of a definition, which [`Message::look_up`] has looked up.
+#[derive(Debug, Clone, Copy)]
+pub struct Place<'a> {
+    field: Field<'a>,
 }
 
 /// Goes through the fields of a [`Message`].

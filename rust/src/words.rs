@@ -97,7 +97,7 @@ impl Field<'_> {
 
     /// The type by which its numbers have words: that which the caller's names say, that of the case that the message is, or that of the
     /// profile.
-    fn type_of_words(&self) -> Option<&'static str> {
+    pub(crate) fn type_of_words(&self) -> Option<&'static str> {
         let (message, names) = self.defined()?;
         let of = (message, self.number());
         let own = names.and_then(|names| names.type_of(message, self.number()));

@@ -74,7 +74,8 @@ fn limits_of_numbers() {
             let (least, most) = (least.to_string(), most.to_string());
             assert_eq!(of(number).unwrap_err(), Unfit::Range { field, value, least, most });
         }
-        for number in [f64::NAN, f64::INFINITY, -1e30, 1e300] {
+        assert_eq!(bytes(definition.message().with(0, f64::NAN).unwrap()), bytes(definition.message()));
+        for number in [f64::INFINITY, -1e30, 1e300] {
             assert!(matches!(definition.message().with(0, number), Err(Unfit::Range { .. })));
         }
     }
@@ -97,7 +98,6 @@ fn scaled_numbers() {
     for (key, value) in [
         ("altitude", -500.1),
         ("altitude", 12606.95),
-        ("speed", f64::NAN),
         ("distance", -0.005),
         ("vertical_speed", 32.767),
     ] {
@@ -135,7 +135,8 @@ fn floats() {
     assert_eq!(narrow(1.5), Ok(Raw::Float32(0x3FC0_0000)));
     assert_eq!(narrow(0.1), Ok(Raw::Float32(0x3DCC_CCCD)));
     assert_eq!(narrow(f64::NEG_INFINITY), Ok(Raw::Float32(0xFF80_0000)));
-    for value in [f64::NAN, 1e39, -1e300] {
+    assert_eq!(narrow(f64::NAN), Ok(Raw::Float32(0xFFFF_FFFF))); // as where there is no value
+    for value in [1e39, -1e300] {
         assert!(matches!(narrow(value), Err(Unfit::Range { .. })));
     }
     let wide = definition.message().with(1, 0.1).unwrap().with(0, 7).unwrap();
@@ -143,7 +144,7 @@ fn floats() {
         (wide.field(1).unwrap().raw(0), wide.field(0).unwrap().value(0)),
         (Some(Raw::Float64(0x3FB9_9999_9999_999A)), Some(7.0))
     );
-    assert!(definition.message().with(1, f64::NAN).is_err());
+    assert_eq!(definition.message().with(1, f64::NAN).unwrap().field(1).unwrap().value(0), None);
     let mut draft = definition.message();
     draft.set_raw(0, 0, Raw::Float32(0x7F80_0001)).unwrap();
     assert_eq!(draft.field(0).unwrap().bytes(), [1, 0, 0x80, 0x7F]);
@@ -162,11 +163,12 @@ fn texts_and_bytes() {
     assert_eq!((bytes(0, "".into()), bytes(0, Value::None)), (Ok(vec![0; 8]), Ok(vec![0; 8])));
     assert_eq!(bytes(0, "123456789".into()), Err(Unfit::Length { field: "field_0".into(), length: 9, room: 8 }));
     assert_eq!((bytes(1, Value::Bytes(&[1, 2, 3])), bytes(1, Value::None)), (Ok(vec![1, 2, 3]), Ok(vec![0xFF; 3])));
+    assert_eq!(bytes(1, Value::Bytes(&[0xFF; 3])), bytes(1, Value::None));
     for value in [Value::Text("a\0b"), Value::Unsigned(7), Value::Float(1.5), Value::Several] {
         assert!(matches!(bytes(0, value), Err(Unfit::Kind { .. })), "{value:?}");
     }
     for value in
-        [Value::Bytes(&[1, 2]), Value::Bytes(&[1; 4]), Value::Bytes(&[0xFF; 3]), Value::Text("abc"), Value::Unsigned(7)]
+        [Value::Bytes(&[1, 2]), Value::Bytes(&[1; 4]), Value::Text("abc"), Value::Unsigned(7)]
     {
         assert!(bytes(1, value).is_err(), "{value:?}");
     }
@@ -190,7 +192,9 @@ fn several_numbers() {
         (draft.set_items("time", [1, 2, 3, 4]), draft.set_items("time", std::iter::repeat(1))),
         (one_too_many.clone(), one_too_many)
     );
-    assert!(matches!(draft.set_items("time", [1.0, f64::NAN]), Err(Unfit::Range { .. })));
+    let gap = draft.set_items("time", [1.0, f64::NAN]).map(|()| draft.field("time").unwrap().bytes().to_vec());
+    assert_eq!(gap, Ok(vec![0xE8, 3, 0xFF, 0xFF, 0xFF, 0xFF]));
+    draft = before.clone();
     assert_eq!(draft.set("time", 1), Err(Unfit::Length { field: "time".into(), length: 1, room: 3 }));
     assert!(draft == before);
     draft.set("time", Value::None).unwrap();

@@ -7,7 +7,8 @@ from typing import Any
 
 from .. import check, mend
 from .._sources import bytes_of
-from .._write.edits import Change, edit, join
+from .._write.edits import Change, change
+from .._write.joins import join
 from .inputs import Input, Path, opened
 from .outputs import NotWritten, Usage, see_no_terminal
 from .progress import Progress, shown
@@ -47,8 +48,8 @@ def run_edit(asked: argparse.Namespace, sources: Sources, progress: Progress) ->
         raise Usage("edit: it takes IN and OUT")
     source, into = asked.files
     see_no_terminal("edit", into)
-    change = Change(tuple(asked.drop), asked.shift, asked.begin, asked.end)
-    counts = edit(sources.open([source])[0], _sink(into), change)
+    asked_for = Change(tuple(asked.drop), asked.shift, asked.begin, asked.end)
+    counts = change(sources.open([source])[0], _sink(into), asked_for)
     progress.clear()
     for (message, field), count in sorted(counts.items()):
         sys.stderr.write(f"emptied: {shown(message)} {shown(field)}, {count} times\n")
@@ -72,7 +73,7 @@ def run_mend(asked: argparse.Namespace, sources: Sources, progress: Progress) ->
     if into != "-" and os.path.exists(into) and not asked.force and not _is_device(into):
         raise Usage(f"{shown(into)} is there already: --force replaces it")
     data = bytes_of(sources.open([source])[0])
-    made = mend(data)
+    made = mend(data, whole=asked.whole)
     progress.clear()
     if len(made) < len(data) or made != data[: len(made)]:
         print(f"{shown(source)}: {check(data)}; mended: {len(made)} of {len(data)} bytes", file=sys.stderr)

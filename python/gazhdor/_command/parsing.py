@@ -24,7 +24,7 @@ COMMANDS = {
         "[-r] [-o OUT] [--extra] [--names TSV].. [--numbers] [FILE]..", "write a line of JSON for each message"
     ),
     "gpx": Command("[-r] [-o OUT] [FILE]..", "write the track as GPX"),
-    "mend": Command("[-f] [IN [OUT]]", "make a good file of one that was broken off or is damaged"),
+    "mend": Command("[-f] [--whole] [IN [OUT]]", "make a good file of one that was broken off or is damaged"),
     "edit": Command(
         "[--drop FIELD].. [--shift TIME] [--from TIME] [--to TIME] IN OUT",
         "write a copy with fields emptied, times moved, or a part alone",
@@ -96,6 +96,7 @@ def _mend(add: Any) -> None:
     what = "the file that is mended, and the one that is written; without OUT it is standard output"
     add("files", nargs="*", metavar="IN [OUT]", help=what)
     add("-f", "--force", action="store_true", help="write OUT also where it is there already")
+    add("--whole", action="store_true", help="add the lap, the session and the activity that are lacking")
 
 
 def _edit(add: Any) -> None:

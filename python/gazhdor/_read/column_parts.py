@@ -2,89 +2,21 @@
 import datetime
 from collections.abc import Iterable, Iterator
 from itertools import repeat
-from typing import Any, NamedTuple, Optional
+from typing import Any, Optional
 
-from .._names import Names
-from .._numbers import (
-    AT_FILE,
-    AT_MESSAGE_CYCLES,
-    AT_MESSAGE_DISTANCE,
-    AT_MESSAGE_LOCAL,
-    AT_MESSAGE_POWER,
-    AT_MESSAGE_SPEED,
-    AT_MESSAGE_TIME,
-    AT_PLACE,
-    FLOAT,
-    NO_TIME,
-)
-from .._profile import Kind, see_fields
+from .._numbers import AT_MESSAGE_TIME, FLOAT, NO_TIME
+from .._profile import see_fields
 from .._sources import Source
 from .._times import EPOCH, SYSTEM_TIMES, when
 from ..errors import FitError, TooManyCells
 from .blocks import Walk
+from .cells import ATTRIBUTES, DATE, DEGREES, LOCAL, TIME, WORDS, Asked, Cell, cell_of, own_keys
 from .streams import each
-from .values import Definition, Entry, Key, as_value, degrees, whole_number
-from .words import choices
+from .values import Definition, Entry, Key, as_value, degrees
 
-TIME = "timestamp"
 _BATCH = 1 << 18  # At least that many bytes of blocks are taken at once.
 _FEW_CELLS, _MOST_EMPTY = 1 << 22, 16
 _FEW_DEFINITIONS = 16
-
-# How the items of a field are told: as its value, in degrees, as a time in UTC, as a time by the clock of the place, as
-# words.
-VALUE, DEGREES, DATE, LOCAL, WORDS = "value", "degrees", "date_time", "local_date_time", "words"
-
-
-class Cell(NamedTuple):
-    """What a column has of each message of a definition: the field, and how its items are told."""
-
-    entry: Entry
-    form: str = VALUE
-
-
-# What a message tells of itself, by the names of its attributes: where it stands in each block, and in those that have
-# counters.
-_SECONDS = whole_number(AT_MESSAGE_TIME, 4)
-_OWN = {
-    ".file": whole_number(AT_FILE, 4),
-    ".place": whole_number(AT_PLACE, 8),
-    ".local": whole_number(AT_MESSAGE_LOCAL, 1),
-    ".seconds": _SECONDS,
-}
-_COUNTED = {
-    ".speed": whole_number(AT_MESSAGE_SPEED, 8, 100),
-    ".distance": whole_number(AT_MESSAGE_DISTANCE, 8, 16),
-    ".total_cycles": whole_number(AT_MESSAGE_CYCLES, 8),
-    ".accumulated_power": whole_number(AT_MESSAGE_POWER, 8),
-}
-_TIMES = {TIME: Cell(_SECONDS, DATE), ".time": Cell(_SECONDS, DATE)}
-_PLACES = {".latitude": 0, ".longitude": 1}
-_ATTRIBUTES = {*_OWN, *_COUNTED, *_PLACES, ".time"}
-
-
-def _cell(definition: Definition, key: Key, times: bool) -> Optional[Cell]:
-    """What a column takes of each message of a definition."""
-    entry: Optional[Entry] = None
-    if isinstance(key, str) and (key in _TIMES or key[:1] == "."):
-        if key in _TIMES:
-            return _TIMES[key]
-        if key in _PLACES:
-            position = definition.position
-            return Cell(position[_PLACES[key]], DEGREES) if position else None
-        entry = _OWN.get(key) or (_COUNTED.get(key) if definition.is_counted else None)
-    else:
-        entry = definition.by_key.get(key)
-    if entry and definition.says_words and id(entry) in choices(definition):
-        return Cell(entry, WORDS)
-    # A field of no size has no value.
-    return Cell(entry, entry.type or VALUE if times else VALUE) if entry and entry.count else None
-
-
-def _own_keys(definition: Definition) -> list[Key]:
-    """The keys of all fields that the messages of a definition have, but of the time."""
-    return [key for key, entry in definition.keys.items() if entry.key != 253]
-
 
 class Part:
     """Some messages of one definition: their blocks, how many messages come before each run of them, and how many are
@@ -153,6 +85,11 @@ class Part:
     def values(self, cell: Cell) -> list[Any]:
         """What a column has of its messages."""
         entry = cell.entry
+        if cell.others:
+            first, *others = (self.values(one) for one in (cell._replace(others=()), *cell.others))
+            for other in others:
+                first = [next_ if value is None else value for value, next_ in zip(first, other)]
+            return first
         if entry.kind > FLOAT or cell.form == WORDS:
             data, length = bytes(self.view), self.length
             return [entry.read(data[at : at + length]) for at in range(0, len(data), length)]
@@ -166,7 +103,7 @@ class Part:
 
 def told(cell: Cell, items: list[Any], numbers: list[Any]) -> list[Any]:
     """The values of items, which are also given as numbers, as a message has them."""
-    entry, form = cell
+    entry, form, _ = cell
     if form in (DATE, LOCAL) and not entry.is_scaled:
         return _times(items, entry.invalid, form == LOCAL)
     if form == DEGREES:
@@ -203,7 +140,7 @@ def _up_to_fault(parts: Iterator[bytes], partial: bool) -> Iterator[bytes]:
             raise
 
 
-def _parts(source: Source, asked: "Asked", partial: bool) -> Iterator[tuple[Definition, Part]]:
+def _parts(source: Source, asked: Asked, partial: bool) -> Iterator[tuple[Definition, Part]]:
     if not isinstance(asked.message, (str, int)):
         raise TypeError(f"a message is named by its name or its number, and not by {type(asked.message).__name__}")
     walk = Walk(asked.message, asked.names, asked.words)
@@ -223,17 +160,6 @@ def _parts(source: Source, asked: "Asked", partial: bool) -> Iterator[tuple[Defi
             yield from taken.values()
             taken, size = {}, 0
     yield from taken.values()
-
-
-class Asked(NamedTuple):
-    """What a caller asks for: the fields, or None for all; whether fields that are times are told as such; names of the
-    caller; whether numbers are told as words."""
-
-    message: Kind
-    fields: Optional[list[Key]]
-    times: bool
-    names: Optional[Names]
-    words: bool = False
 
 
 Values = Any  # the list of a part, or an array
@@ -263,7 +189,7 @@ class Table:
             part.drop()
         if asked.fields is not None:
             missing = [key for key in self._keys if key not in self._found]
-            see_fields(asked.message, missing, self._first, _ATTRIBUTES, asked.names)
+            see_fields(asked.message, missing, self._first, ATTRIBUTES, asked.names)
             return
         cells = len(self.keys) * self.rows
         if cells > _FEW_CELLS and cells > _MOST_EMPTY * self._filled:
@@ -275,15 +201,15 @@ class Table:
             self._first.append(definition)
         keys: Iterable[Key] = self._keys
         if self._asked.fields is None:
-            self._keys.update(dict.fromkeys(_own_keys(definition)))
+            self._keys.update(dict.fromkeys(own_keys(definition)))
             self._has_times = self._has_times or 253 in definition.by_key or part.has_times
             keys = dict.fromkeys([TIME, *definition.by_key])
-        made: dict[tuple[int, str], Values] = {}
+        made: dict[tuple[int, str, int], Values] = {}
         for key in keys:
-            cell = _cell(definition, key, self._asked.times)
+            cell = cell_of(definition, key, self._asked)
             if cell is None:
                 continue
-            known = id(cell.entry), cell.form
+            known = id(cell.entry), cell.form, len(cell.others)
             if known not in made:
                 made[known] = self._take(part, cell)
             self._found.setdefault(key, []).append((part, self._like(key, cell), made[known]))
@@ -294,6 +220,8 @@ class Table:
         entry = cell.entry
         if entry.index is not None and isinstance(key, str):
             self._developer.setdefault(key, entry.key)
+        if cell.others:
+            return cell
         told_by = entry.kind, entry.width, entry.is_number, entry.scale, entry.offset, entry.invalid, cell.form
         return self._alike.setdefault(told_by, cell)
 

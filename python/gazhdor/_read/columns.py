@@ -1,4 +1,5 @@
 """Columns of messages: lists, numpy arrays and pandas frames, made of many blocks at once."""
+import datetime
 import importlib
 from collections.abc import Callable, Iterable
 from typing import Any, NamedTuple, Optional
@@ -8,7 +9,9 @@ from .._numbers import FLOAT
 from .._profile import Kind
 from .._sources import Source
 from .._times import EPOCH, SYSTEM_TIMES
-from .column_parts import DATE, DEGREES, LOCAL, VALUE, WORDS, Asked, Cell, Part, Piece, Table, told
+from .cells import DATE, DEGREES, LOCAL, VALUE, WORDS, Asked, Cell
+from .column_parts import Part, Piece, Table, told
+from .ready import ready_values, spread
 from .values import Entry, Key, label
 
 _UNIX = int(EPOCH.timestamp())
@@ -23,10 +26,13 @@ def _needed(name: str) -> Any:
         raise ModuleNotFoundError(what, name=error.name) from None
 
 
-def _asked(message: Kind, fields: Optional[Iterable[Key]], times: bool, names: Told, words: bool) -> Asked:
+def _asked(
+    message: Kind, fields: Optional[Iterable[Key]], times: bool, names: Told, words: bool, ready: bool
+) -> Asked:
     if isinstance(fields, (str, int)):
         raise TypeError("the fields are a list of names, and not one name")
-    return Asked(message, None if fields is None else list(fields), times, names_of(names), words)
+    keys = None if fields is None else list(fields)
+    return Asked(message, keys, times or ready, names_of(names), words or ready, ready)
 
 
 # ---- lists
@@ -51,6 +57,7 @@ def lists(
     times: bool = False,
     names: Told = None,
     words: bool = False,
+    ready: bool = False,
 ) -> dict[Key, list[Any]]:
     """Returns a list for each of the fields, with the value in each message of one name or number, in their order: the
     values are those of `Message`, and None where a message has no such field. So `zip(*lists.values())` are rows.
@@ -66,9 +73,10 @@ def lists(
     With `partial` it is what comes before a fault; else a fault is raised, as `Refused` or `Truncated`. `UnknownName`
     is raised for a name that neither the profile nor the file has, and `TooManyCells` without `fields` where nearly all
     of very many cells would be empty."""
-    table = Table(_asked(message, fields, times, names, words), Part.values)
+    table = Table(_asked(message, fields, times, names, words, ready), ready_values if ready else Part.values)
     table.read(source, partial)
-    return {key: _list(table, table.pieces(key)) for key in table.keys}
+    found = {key: _list(table, table.pieces(key)) for key in table.keys}
+    return {**spread({label(key): values for key, values in found.items()})} if ready else found
 
 
 # ---- arrays
@@ -87,18 +95,25 @@ class _Arrays:
     a list."""
 
     def __init__(self, numpy: Any, asked: Asked) -> None:
-        self.numpy, self.table = numpy, Table(asked, self._take)
+        self.numpy, self.table, self._is_ready = numpy, Table(asked, self._take), asked.ready
 
     def _take(self, part: Part, cell: Cell) -> Any:
         entry = cell.entry
+        if cell.others:
+            return [self._take(part, one) for one in (cell._replace(others=()), *cell.others)]
         if not entry.is_number or cell.form == WORDS:
-            return part.values(cell)
+            return ready_values(part, cell) if self._is_ready else part.values(cell)
         items = self.numpy.frombuffer(part.view, "<" + entry.item_code).reshape(part.messages, -1)
         return items[:, entry.begins // entry.width].copy()
 
     def _numbers(self, cell: Cell, items: Any) -> Any:
         """As float64, and NaN for none."""
         entry = cell.entry
+        if cell.others:
+            first, *others = map(self._numbers, (cell._replace(others=()), *cell.others), items)
+            for other in others:
+                first = self.numpy.where(self.numpy.isnan(first), other, first)
+            return first
         with self.numpy.errstate(invalid="ignore"):  # as of a float that is a signalling NaN
             numbers = self._floats(entry, items).astype("f8")
         if cell.form == DEGREES:
@@ -153,6 +168,28 @@ class _Arrays:
     def columns(self) -> dict[Key, _Array]:
         return {key: self.column(key) for key in self.table.keys}
 
+    def labelled(self) -> dict[str, _Array]:
+        labels = self.labels()
+        return {labels[key]: array for key, array in self.columns().items()}
+
+    def ready(self) -> dict[str, _Array]:
+        """The columns by their labels, each with values of one type."""
+        found = self.labelled()
+        made: dict[str, _Array] = {}
+        for name, array in found.items():
+            is_plain = array.values.dtype.kind != "O"
+            columns = {name: array.values} if is_plain else spread({name: array.values.tolist()})
+            for own, values in columns.items():
+                while own in made or own != name and own in found:
+                    own += "_"
+                made[own] = array if is_plain else _Array(self._of_list(values), False, array.is_words)
+        return made
+
+    def _of_list(self, values: list[Any]) -> Any:
+        """Numbers as float64, and NaN for none; texts as they are."""
+        is_text = any(isinstance(value, (str, datetime.datetime)) for value in values)
+        return self.numpy.array(values, object if is_text else "f8")
+
     def labels(self) -> dict[Key, str]:
         """A label for each column. Developer fields whose names differ from another label by the case of letters alone
         have their numbers, as some databases don't tell them apart."""
@@ -180,6 +217,7 @@ def columns(
     times: bool = False,
     names: Told = None,
     words: bool = False,
+    ready: bool = False,
 ) -> dict[Key, Any]:
     """Returns a numpy array for each of the fields, with the value in each message of one name or number, in their
     order.
@@ -191,8 +229,10 @@ def columns(
     `Message` has, None where there is nothing. With `times` each field that is a time is datetime64[s], as "timestamp"
     is. With `words` each field whose numbers have words is an object array of these. `fields`, `partial`, `times` and
     `names` are as for `lists`, and so are the errors. It raises ModuleNotFoundError where numpy isn't installed."""
-    arrays = _Arrays(_needed("numpy"), _asked(message, fields, times, names, words))
+    arrays = _Arrays(_needed("numpy"), _asked(message, fields, times, names, words, ready))
     arrays.table.read(source, partial)
+    if ready:
+        return {name: array.values for name, array in arrays.ready().items()}
     return {key: array.values for key, array in arrays.columns().items()}
 
 
@@ -205,6 +245,7 @@ def frame(
     times: bool = False,
     names: Told = None,
     words: bool = False,
+    ready: bool = False,
 ) -> Any:
     """Returns the arrays of `columns` as a DataFrame of pandas, a row for each message. The labels are the names, where
     there is none `field_N`, or `dev_I_N`, I being the developer data index; so is the label of a developer field whose
@@ -212,10 +253,9 @@ def frame(
     without a zone. Columns of words are categories. It raises ModuleNotFoundError where numpy or pandas isn't
     installed."""
     pandas = _needed("pandas")
-    arrays = _Arrays(_needed("numpy"), _asked(message, fields, times, names, words))
+    arrays = _Arrays(_needed("numpy"), _asked(message, fields, times, names, words, ready))
     arrays.table.read(source, partial)
-    labels = arrays.labels()
-    found = {labels[key]: array for key, array in arrays.columns().items()}
+    found = arrays.ready() if ready else arrays.labelled()
     table = pandas.DataFrame({name: array.values for name, array in found.items()})
     for name, array in found.items():
         if array.is_utc:

@@ -3,13 +3,22 @@ import datetime
 import json
 import math
 from collections.abc import Callable
-from typing import Any, NamedTuple, Optional
+from typing import TYPE_CHECKING, Any, NamedTuple, Optional
 
 from .._times import Time
-from .messages import Message
+from .cells import counted
 from .values import Definition, Reader
 
-_text: Callable[[Any], str] = json.JSONEncoder(ensure_ascii=False, allow_nan=False, separators=(",", ":")).encode
+if TYPE_CHECKING:
+    from .messages import Message
+
+_encoded: Callable[[Any], str] = json.JSONEncoder(ensure_ascii=False, allow_nan=False, separators=(",", ":")).encode
+# What some programs take for the end of a line.
+_ENDS = {ord(end): f"\\u{ord(end):04x}" for end in "\x85\u2028\u2029"}
+
+
+def _text(value: Any) -> str:
+    return _encoded(value).translate(_ENDS)
 
 
 class _Known(NamedTuple):
@@ -58,18 +67,17 @@ def _value(value: Any) -> str:
     return _text(_plain(value))
 
 
-def line(message: Message) -> str:
+def line(message: "Message") -> str:
     """The message as a line of JSON, without its end: what it is and where, its time, what is accumulated, the values
     of its fields, and their units. A field without a name is `field_N`, or `dev_I_N`, I being its developer data
     index."""
     block, known = message._block, _known(message._definition)
     where = f'{message.file},"place":{message.place},"local":{message.local}'
     parts = [known.front, f'{where},"time":{_time(message.time)}']
-    if message._definition.is_counted:
-        for name in ("speed", "distance", "total_cycles", "accumulated_power"):
-            amount = getattr(message, name)
-            if amount is not None:
-                parts.append(f',"{name}":{_value(amount)}')
+    for name, entry in counted(message._definition):
+        amount = entry.read(block)
+        if amount is not None:
+            parts.append(f',"{name}":{_value(amount)}')
     parts.append(',"fields":{')
     parts.extend([front + _value(read(block)) for front, read in known.fields])
     parts.append(known.units)

@@ -9,40 +9,33 @@ from .._numbers import (
     AT_FILE,
     AT_MESSAGE_BITS,
     AT_MESSAGE_CYCLES,
-    AT_MESSAGE_DISTANCE,
     AT_MESSAGE_HEADER_TIME,
     AT_MESSAGE_LOCAL,
     AT_MESSAGE_OFFSET,
     AT_MESSAGE_POWER,
-    AT_MESSAGE_SPEED,
     AT_MESSAGE_TIME,
     AT_PLACE,
     NO_OFFSET,
     TOLD_CYCLES,
-    TOLD_DISTANCE,
     TOLD_HEADER_TIME,
     TOLD_POWER,
-    TOLD_SPEED,
     TOLD_TIME,
 )
 from .._profile import UnknownName, fields_of
 from .._times import HEADER_TIME, NO_TIME_BYTES, OWN_TIME, Time, when
+from .._write.added import added
 from .._write.items import Packer, packers
 from .._write.words import numbered
 from .blocks import Run
+from .cells import merged
 from .fields import Field
-from .values import Definition, Entry, Key, Number, Value, degrees
+from .json_lines import line
+from .ready import ready
+from .times import time_of
+from .values import Definition, Entry, Key, Number, Value, degrees, label
 from .words import word_of
 
 _FILE, _PLACE, _TIME = struct.Struct("<I").unpack_from, struct.Struct("<Q").unpack_from, struct.Struct("<I").unpack_from
-
-
-def _time_of(entry: Entry, block: bytes) -> Optional[Time]:
-    """The time of a field that is one: one by the clock of the place has no zone."""
-    seconds: Any = entry.read(block)
-    time = when(seconds)
-    is_local = entry.type == "local_date_time" and isinstance(time, datetime.datetime)
-    return time.replace(tzinfo=None) if is_local else time  # type: ignore[union-attr]
 
 
 def _tell_time(block: bytearray, at: int) -> None:
@@ -142,12 +135,29 @@ class Message(Mapping[Key, Any]):
         changes = numbered(self._definition, {**(values or {}), **fields}, self._block)
         for key, value in changes.items():
             if key not in packs:
-                raise self._missing(key)
+                raise self._not_there(key)
             pack = packs[key]
             block[pack.begins : pack.begins + pack.size] = pack(value)
             if pack.entry.key == 253 and pack.entry.type:
                 _tell_time(block, pack.begins)
         return Message(bytes(block), self._definition)
+
+    def adding(self, values: Optional[Mapping[Any, Any]] = None, **fields: Any) -> "Message":
+        """Returns the message with other values of some of its fields, as `replace`, and with those fields that it
+        hasn't: they are named, and have base types, as in `Writer.define`. `Writer.copy` writes it with a definition
+        message of its own, where it is needed."""
+        changes: dict[Any, Any] = {**(values or {}), **fields}
+        known = self._definition.by_key
+        new = {key: value for key, value in changes.items() if getattr(key, "key", key) not in known}
+        made = added(self, new) if new else self
+        return made.replace({getattr(key, "key", key): value for key, value in changes.items() if key not in new})
+
+    def _not_there(self, key: Any) -> KeyError:
+        """What `replace` raises of a field that the message hasn't."""
+        if isinstance(key, str) and not self._is_known(key):
+            return self._missing(key)
+        of = self.name or f"message {self.number}"
+        return UnknownName(f"this {of} hasn't the field", label(key) if key else "", (), ": adding(..) gives it one")
 
     def emptied(self, wanted: "Callable[[Field], bool]") -> "Message":
         """Returns the message with no value in each field for which `wanted` says so, which it is asked of every
@@ -183,7 +193,7 @@ class Message(Mapping[Key, Any]):
         """The fields that are times, as `when` has them: `timestamp`, which is `time`, where the message has one; those
         that the profile calls times, such as `start_time`; those of the caller's `names`. `local_timestamp` is one by
         the clock of the place, and has no zone. None stands for no value."""
-        found = {key: _time_of(entry, self._block) for key, entry in self._definition.keys.items() if entry.type}
+        found = {key: time_of(entry, self._block) for key, entry in self._definition.keys.items() if entry.type}
         if self.time is not None:
             found["timestamp"] = self.time
         return found
@@ -285,17 +295,29 @@ class Message(Mapping[Key, Any]):
         amount: int = _PLACE(self._block, at)[0] if self._block[AT_MESSAGE_BITS] & bit else None
         return amount
 
+    def _merged(self, key: str) -> Optional[float]:
+        for entry in merged(self._definition, key):
+            value: Any = entry.read(self._block)
+            if value is not None:
+                return float(value)
+        return None
+
+    @property
+    def altitude(self) -> Optional[float]:
+        """Metres, of a record: its `enhanced_altitude`, else its `altitude`; None where it has none."""
+        return self._merged(".altitude")
+
     @property
     def speed(self) -> Optional[float]:
-        """Metres a second, of a record with `compressed_speed_distance`; else None."""
-        amount = self._amount(TOLD_SPEED, AT_MESSAGE_SPEED)
-        return None if amount is None else amount / 100
+        """Metres a second, of a record: its `enhanced_speed`, else its `speed`, else that of
+        `compressed_speed_distance`; None where it has none."""
+        return self._merged(".speed")
 
     @property
     def distance(self) -> Optional[float]:
-        """Metres, accumulated over the file from `compressed_speed_distance`; None in a message without it."""
-        amount = self._amount(TOLD_DISTANCE, AT_MESSAGE_DISTANCE)
-        return None if amount is None else amount / 16
+        """Metres, of a record: its `distance`, else what is accumulated over the file from `compressed_speed_distance`;
+        None where it has none."""
+        return self._merged(".distance")
 
     @property
     def total_cycles(self) -> Optional[int]:
@@ -306,6 +328,16 @@ class Message(Mapping[Key, Any]):
     def accumulated_power(self) -> Optional[int]:
         """Watts, accumulated over the file; None in a message without it."""
         return self._amount(TOLD_POWER, AT_MESSAGE_POWER)
+
+    def ready(self) -> dict[str, Any]:
+        """Returns the values by their labels, each of a type that databases and JSON have: times as datetimes, places in
+        degrees, words, several numbers as `name_0`, `name_1` and so on, bytes as text. A time that the device didn't
+        know, and a float that is no finite number, are None."""
+        return ready(self)
+
+    def to_json(self) -> str:
+        """Returns the message as a line of JSON, as the command `json` writes it, without its end."""
+        return line(self)
 
     def __repr__(self) -> str:
         return f"<gazhdor.Message {self.name or self.number}: {self.as_dict()}>"

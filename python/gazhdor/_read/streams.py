@@ -1,6 +1,5 @@
 """Bytes that come in pieces: what is made of each piece, and of a source that is read piece by piece."""
 import csv
-import itertools
 import os
 import threading
 import weakref
@@ -205,17 +204,24 @@ def _found(file: Any) -> Answer:
 def each(kind: str, source: Source, partial: bool, ahead: bool = True) -> Iterator[bytes]:
     """What is made of a source, piece by piece. A fault is raised after what comes before it. Without `partial`, and
     unless it needn't be known ahead, it is raised at once where the source can go back."""
+    making = Opened(_KINDS[kind])
+    for piece in checked_pieces(source, partial or not ahead):
+        made = making.finish() if piece is None else making.feed(piece)
+        judged(making.answer, partial=True)
+        yield made
+        judge(making.answer)
+
+
+def checked_pieces(source: Source, partial: bool) -> Iterator[Optional[bytes]]:
+    """The pieces of a source, and None at its end. Without `partial` a fault is raised at once where the source can go
+    back."""
     with opened(source) as file:
-        place = place_of(file) if ahead and not partial else None
+        place = None if partial else place_of(file)
         if place is not None:
             judge(_found(file))
             go_back(file, place)
-        making = Opened(_KINDS[kind])
-        for piece in itertools.chain(pieces(file), [None]):
-            made = making.finish() if piece is None else making.feed(piece)
-            judged(making.answer, partial=True)
-            yield made
-            judge(making.answer)
+        yield from pieces(file)
+        yield None
 
 
 def blocks(source: Source, partial: bool = False) -> bytes:
@@ -252,6 +258,16 @@ if TYPE_CHECKING:
         everything: Literal[True],
         words: bool = False,
     ) -> Iterator[Everything]: ...
+    @overload
+    def messages(
+        source: Source,
+        only: Only = None,
+        partial: bool = False,
+        names: Told = None,
+        *,
+        words: bool = False,
+        ready: Literal[True],
+    ) -> Iterator[dict[str, Any]]: ...
 
 
 def messages(
@@ -261,6 +277,7 @@ def messages(
     names: Told = None,
     everything: bool = False,
     words: bool = False,
+    ready: bool = False,
 ) -> Iterator[Any]:
     """Yields a Message for each data message; with `only`, a name or a number or several of these, for such messages
     alone, and makes nothing of the others. The source is read, piece by piece, as messages are asked for. With
@@ -268,17 +285,19 @@ def messages(
     `Truncated`; of a file object that can't go back to where it was, as a pipe, also after those before it. `names` has
     names, units and scales beside the profile's: a dict, the path of a text, or `Names`. With `words` a number that has
     a word is that word, as 'cycling' for a sport. With `everything` it yields in their places what else files have,
-    too: a `FileHeader`, a `DefinitionMessage`, a `FileEnd`."""
+    too: a `FileHeader`, a `DefinitionMessage`, a `FileEnd`. With `ready` it yields in place of a Message a dict of its
+    values, as `Message.ready` returns it."""
     if everything:
-        if only is not None:
-            raise TypeError("everything is all messages, and not only some")
+        if only is not None or ready:
+            raise TypeError("everything is all messages as they are, and not only some, or their values")
         events = Events(names_of(names), words)
         for blocks in each("blocks", source, partial):
             yield from events.events(blocks)
         return
     walk = Walk(only, names_of(names), words)
     for blocks in each("blocks", source, partial):
-        yield from messages_of(blocks, walk.runs(blocks))
+        found = messages_of(blocks, walk.runs(blocks))
+        yield from (message.ready() for message in found) if ready else found
 
 
 def rows(source: Source, partial: bool) -> Iterator[list[str]]:

@@ -400,6 +400,16 @@ class Definition:
         return next(named, fields_of(self.number).get(key))
 
     @property
+    def told(self) -> Beside:
+        """What is known of it but from its block."""
+        return self._told
+
+    @property
+    def caller_names(self) -> Names:
+        """What the caller says of fields of its messages."""
+        return Names({(self.number, field): tuple(named) for field, named in self._told.fields.items()})
+
+    @property
     def names(self) -> list[str]:
         """The caller's names of fields of its messages, also of those that they don't have."""
         return [named.name for named in self._told.fields.values() if named.name]

@@ -194,7 +194,7 @@ class Part:
         ran = sum(timers.values()) if timers else self._outline.timer.ran(start, end)
         counts = {}
         if timers:
-            index = next(lap.get("message_index") for lap in laps if lap.place in timers)
+            index = next(lap.get("message_index", 0) for lap in laps if lap.place in timers)
             counts = {"first_lap_index": index, "num_laps": len(timers)}
         own = _own(session, SESSION_ENDS)
         values = {**summary.told(start, end, ran), **own, **sport_of(session), **counts}
@@ -250,7 +250,7 @@ class Part:
         start, end = all.start, all.end
         ran = sum(self._timer(lap, made) for lap in laps) if laps else told.timer.ran(start, end)
         first = [] if laps else [Anew("lap", {"message_index": 0, **all.lap(start, end, ran), **LAP_ENDS})]
-        index = laps[0].get("message_index") if laps else 0
+        index = laps[0].get("message_index", 0) if laps else 0
         counts = {"first_lap_index": index, "num_laps": max(len(laps), 1)}
         session = {"message_index": 0, **all.told(start, end, ran), **told.sport, **counts, **SESSION_ENDS}
         activity = activity_of(end, [ran], told.zone, next(iter(told.of[ACTIVITY]), None))

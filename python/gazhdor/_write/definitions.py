@@ -14,6 +14,7 @@ from .._numbers import (
     AT_ENTRY_UNIT,
     AT_HEADER_REST,
     AT_KIND,
+    AT_MESSAGE_COUNTED_ITEMS,
     AT_MESSAGE_ITEMS,
     BYTES,
     DEFINITION,
@@ -22,6 +23,7 @@ from .._numbers import (
     FILE_END,
     FILE_HEADER,
     HEADER_FORMAT,
+    IS_COUNTED,
     LEAST_BLOCK,
     MESSAGE,
     MESSAGE_FORMAT,
@@ -110,17 +112,18 @@ def _entry(form: Form, begins: int) -> bytes:
     return _ENTRY.pack(*numbers, *items) + name + unit
 
 
-def definition_block(message: int, forms: Iterable[Form], kept: Kept = Kept()) -> bytes:
-    """The block of a definition message."""
+def definition_block(message: int, forms: Iterable[Form], kept: Kept = Kept(), is_counted: bool = False) -> bytes:
+    """The block of a definition message, of which the messages may have what is accumulated before their items."""
     entries: list[bytes] = []
-    begins, developers = AT_MESSAGE_ITEMS, 0
+    begins, developers = AT_MESSAGE_COUNTED_ITEMS if is_counted else AT_MESSAGE_ITEMS, 0
     for form in forms:
         entries.append(_entry(form, begins))
         begins += form.field.size + -form.field.size % 8
         developers += form.field.developer is not None
     rest = _text(name_of(message) or "") + b"".join(entries)
     says = developers > 0 if kept.says_developers is None else kept.says_developers
-    counts = message, len(entries) - developers, developers, SAYS_DEVELOPERS if says else 0
+    bits = (SAYS_DEVELOPERS if says else 0) | (IS_COUNTED if is_counted else 0)
+    counts = message, len(entries) - developers, developers, bits
     front = AT_DEFINITION_NAME + len(rest), DEFINITION, kept.local, kept.big, kept.reserved, 0, begins, 0, 0
     return _DEFINITION.pack(*front, *counts) + rest
 

@@ -1,7 +1,8 @@
 """Changes of whole files: fields emptied, times moved, a part cut out."""
 import datetime
 import re
-from typing import NamedTuple, Optional
+from collections.abc import Iterable
+from typing import NamedTuple, Optional, Union
 
 from .._names import EXTRA
 from .._numbers import AT_MESSAGE_BITS, AT_MESSAGE_OFFSET, NO_TIME, TOLD_HEADER_TIME, TOLD_TIME
@@ -160,11 +161,45 @@ def _later(time: int, shift: int, field: str) -> int:
     return time + shift
 
 
-def edit(source: Source, sink: Sink, change: Change) -> dict[tuple[str, str], int]:
+Counts = dict[tuple[str, str], int]
+
+
+def edit(
+    source: Source,
+    sink: Sink,
+    *,
+    drop: Union[str, Iterable[str]] = (),
+    shift: Union[int, datetime.timedelta] = 0,
+    begin: Union[None, int, str, datetime.datetime] = None,
+    end: Union[None, int, str, datetime.datetime] = None,
+) -> Counts:
     """Writes a file, or a chain of files, with changes, and returns how many values were emptied of each field, by the
-    names of message and field. Times are cut before they are moved. Of what is cut messages with another time are left
-    out, and so are those without one that come after one of these; distances begin at 0 again. Each lap and session
-    that has a part in the span stays, one that is cut with what its records there say."""
+    names of message and field.
+
+    drop        the fields that are emptied: "position", which is all places, the name of a field, or "MESSAGE.FIELD",
+                each a name or a number
+    shift       seconds, or a timedelta, by which all times are moved
+    begin, end  the first and the last second that stay: seconds, as `Message.seconds`, a datetime or a text with a zone
+
+    Times are cut before they are moved. Messages with another time are left out. One without a time has that of the
+    last one before it in its file; what comes before the first time, and messages 0, 206 and 207, stay. Distances begin
+    at 0 again where records before are left out. Each lap and session stays that has a part in the span: as it is,
+    where all of it is there, else made anew by what the records say, with its sport, and its calories by its part of
+    the time. It raises ValueError where no record has a time in the span, and UnknownName for a field that nothing
+    names."""
+    words = (drop,) if isinstance(drop, str) else tuple(drop)
+    seconds = shift // datetime.timedelta(0, 1) if isinstance(shift, datetime.timedelta) else shift
+    return change(source, sink, Change(words, seconds, _second(begin), _second(end)))
+
+
+def _second(time: Union[None, int, str, datetime.datetime]) -> Optional[int]:
+    if isinstance(time, datetime.datetime):
+        return _since_epoch(time)
+    return time_of(time) if isinstance(time, str) else time
+
+
+def change(source: Source, sink: Sink, change: Change) -> Counts:
+    """Does what `edit` says."""
     editor = _Editor(change)
     if change.is_cut:
         source = bytes_of(source)
@@ -189,7 +224,10 @@ def time_of(word: str) -> int:
     """The seconds that a time of a command line is: `2026-05-17T07:30:00Z`, with any zone, or a number of seconds."""
     if word.isdecimal():
         return int(word)
-    time = datetime.datetime.fromisoformat(re.sub("[zZ]$", "+00:00", word))
+    return _since_epoch(datetime.datetime.fromisoformat(re.sub("[zZ]$", "+00:00", word)))
+
+
+def _since_epoch(time: datetime.datetime) -> int:
     if time.tzinfo is None:
         raise ValueError("a time needs a zone, as 2026-05-17T07:30:00Z")
     return (time - EPOCH) // datetime.timedelta(0, 1)

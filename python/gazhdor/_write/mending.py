@@ -9,6 +9,7 @@ from .._read.streams import each, found
 from .._sources import Source, bytes_of
 from ..errors import FitError, judge
 from .definitions import END
+from .wholes import completed
 from .writer import from_blocks
 
 _FRONT = struct.Struct("<IB").unpack_from
@@ -121,12 +122,17 @@ def _mended(data: memoryview) -> tuple[bytes, memoryview]:
     return from_blocks(blocks + END), after
 
 
-def mend(source: Source) -> bytes:
+def mend(source: Source, whole: bool = False) -> bytes:
     """Returns a good file, or chain of files, of one that was broken off or is damaged: of each file its records up to
     the first that is not whole or can't be, with the size and the checksums that belong to them. Good bytes stay as
-    they are, and bytes after the last file that begin none are left out. Where there is no good record it raises the
-    fault, `Refused` or `Truncated`."""
-    data = bytes_of(source)
+    they are, and bytes after the last file that begin none are left out. With `whole` a file that has records and no
+    session gets what it lacks: a lap of those that are in none, a session, an activity message, by what laps and
+    records say. Where there is no good record it raises the fault, `Refused` or `Truncated`."""
+    mended = _good(bytes_of(source))
+    return completed(mended) if whole else mended
+
+
+def _good(data: bytes) -> bytes:
     answer = found(data)
     if answer.good:
         return data
