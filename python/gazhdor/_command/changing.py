@@ -7,7 +7,8 @@ from typing import Any
 
 from .. import check, mend
 from .._sources import bytes_of
-from .._write.edits import Change, edit, join
+from .._write.edits import Change, edit
+from .._write.joins import join
 from .inputs import Input, Path, opened
 from .outputs import NotWritten, Usage, see_no_terminal
 from .progress import Progress, shown
