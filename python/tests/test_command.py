@@ -15,7 +15,7 @@ import time
 import unittest
 import zipfile
 
-from support import BYTES, RIDE, VERSION, bytes_at, folder
+from support import BYTES, RIDE, VERSION, bytes_at, folder, in_tree, text_at
 
 import gazhdor
 from gazhdor._command.archives import MOST, NotUnpacked
@@ -142,12 +142,9 @@ class Check(unittest.TestCase):
         self.assertIn(b"(this is a FIT file)", command("from-csv", input=BYTES).stderr)
 
     def test_kind_of(self):
-        kinds = {BYTES[:512]: None, b"\x0e\x10": None, b"\x0d": None, "é".encode()[:1]: None, b"a\0": None}
-        kinds.update({"a é".encode()[:-1]: "text", "ä".encode("utf-16"): "text", b"<html>": "a web page"})
-        kinds.update({b"<a/>": "XML", b"<TrainingCenterDatabase": "TCX"})
-        kinds.update({b"PK\3\4": "a zip file", b"\x1f\x8b": "a gzip file"})
-        for front, kind in kinds.items():
-            self.assertEqual(kind_of(front), kind, front)
+        for case in json.loads(text_at(in_tree("tests/cases/kinds.json"))):
+            self.assertEqual(kind_of(bytes.fromhex(case["front"])), case["kind"], case)
+        self.assertIsNone(kind_of(BYTES))
 
 
 class Packed(unittest.TestCase):
