@@ -30,7 +30,8 @@ test("the package, installed", needs("npm"), () => {
     said("npm", "install", "--silent", "--offline", "--no-audit", "--no-fund", "--prefix", user, made)
     writeFileSync(join(user, "own.mjs"), textAt("js/example.mjs").replace('"./gazhdor.mjs"', '"gazhdor"'))
     assert.equal(said(process.execPath, join(user, "own.mjs"), inTree("examples/ride.fit")), WANTED)
-    const names = ["LICENSE", "README.md", "example.mjs", "gazhdor.d.ts", "gazhdor.mjs", "gazhdor.wasm", "package.json", "src", "worker.mjs"]
+    assert.equal(said(join(user, "node_modules/.bin/gazhdor"), "check", inTree("examples/ride.fit")), `${inTree("examples/ride.fit")}: ok, 1 file\n`)
+    const names = ["LICENSE", "README.md", "command", "example.mjs", "gazhdor.d.ts", "gazhdor.mjs", "gazhdor.wasm", "package.json", "src", "worker.mjs"]
     assert.deepEqual(readdirSync(join(user, "node_modules/gazhdor")).sort(), names)
 })
 

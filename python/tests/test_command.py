@@ -6,6 +6,7 @@ import io
 import json
 import os
 import pty
+import select
 import signal
 import subprocess
 import sys
@@ -14,7 +15,7 @@ import time
 import unittest
 import zipfile
 
-from support import BYTES, RIDE, VERSION, bytes_at, folder
+from support import BYTES, RIDE, VERSION, bytes_at, folder, in_tree, text_at
 
 import gazhdor
 from gazhdor._command.archives import MOST, NotUnpacked
@@ -141,12 +142,9 @@ class Check(unittest.TestCase):
         self.assertIn(b"(this is a FIT file)", command("from-csv", input=BYTES).stderr)
 
     def test_kind_of(self):
-        kinds = {BYTES[:512]: None, b"\x0e\x10": None, b"\x0d": None, "é".encode()[:1]: None, b"a\0": None}
-        kinds.update({"a é".encode()[:-1]: "text", "ä".encode("utf-16"): "text", b"<html>": "a web page"})
-        kinds.update({b"<a/>": "XML", b"<TrainingCenterDatabase": "TCX"})
-        kinds.update({b"PK\3\4": "a zip file", b"\x1f\x8b": "a gzip file"})
-        for front, kind in kinds.items():
-            self.assertEqual(kind_of(front), kind, front)
+        for case in json.loads(text_at(in_tree("tests/cases/kinds.json"))):
+            self.assertEqual(kind_of(bytes.fromhex(case["front"])), case["kind"], case)
+        self.assertIsNone(kind_of(BYTES))
 
 
 class Packed(unittest.TestCase):
@@ -275,28 +273,29 @@ class Folders(unittest.TestCase):
 
 
 class Terminals(unittest.TestCase):
-    def on_terminal(self, *words, feed=None):
-        """What a command writes on a terminal, and its status; its input comes slowly."""
+    def started(self, *words):
+        """A command on a terminal, with a pipe for its input, and the terminal's other side."""
         main, side = pty.openpty()
-        process = subprocess.Popen([*WORDS, *words], stdin=subprocess.PIPE if feed else subprocess.DEVNULL, stdout=side,
-            stderr=side)
+        self.addCleanup(os.close, main)
+        process = subprocess.Popen([*WORDS, *words], stdin=subprocess.PIPE, stdout=side, stderr=side)
         os.close(side)
-        for piece in feed or ():
-            process.stdin.write(piece)
-            process.stdin.flush()
-            time.sleep(0.5)
-        if feed:
-            process.stdin.close()
+        return process, main
+
+    def said(self, main, seconds=None):
+        """What is on the terminal, to its end, or as much as comes in some seconds."""
         said = b""
-        try:
-            while True:
+        while seconds is None or select.select([main], [], [], seconds)[0]:
+            try:
                 part = os.read(main, 65536)
-                if not part:
-                    break
-                said += part
-        except OSError:
-            pass
-        os.close(main)
+            except OSError:
+                break
+            said += part
+        return said
+
+    def on_terminal(self, *words):
+        process, main = self.started(*words)
+        process.stdin.close()
+        said = self.said(main)
         return said, process.wait()
 
     def test_no_bytes(self):
@@ -307,18 +306,29 @@ class Terminals(unittest.TestCase):
         said, status = self.on_terminal("table", RIDE)
         self.assertEqual((status, said[:5]), (0, b"file,"))
 
+    def fed_slowly(self, *words):
+        """What a command says whose input comes in small pieces, until it has said something, and then at once."""
+        process, main = self.started(*words)
+        said = b""
+        for at in range(0, len(BYTES), 20):
+            if said:
+                process.stdin.write(BYTES[at:])
+                break
+            process.stdin.write(BYTES[at : at + 20])
+            process.stdin.flush()
+            said += self.said(main, 0.2)
+        process.stdin.close()
+        said += self.said(main)
+        self.assertEqual(process.wait(), 0)
+        return said
+
     def test_progress(self):
-        """A line after a second, which goes away; nothing where all is quick, or where text is shown."""
-        pieces = [BYTES[at : at + 1500] for at in range(0, len(BYTES), 1500)]
-        said, status = self.on_terminal("check", "-", feed=pieces)
-        self.assertEqual(status, 0)
-        self.assertRegex(said, rb"\r\x1b\[Kstandard input: 0\.0 MB\r\x1b\[K")
-        self.assertTrue(said.endswith(b"\r\x1b[K-: ok, 1 file\r\n"), said[-80:])
+        """A line after a second, which goes away; none where all is quick, where text is shown, or in a pipe."""
+        self.assertRegex(self.fed_slowly("check"), rb"^(\r\x1b\[Kstandard input: 0\.0 MB)+\r\x1b\[K-: ok, 1 file\r\n$")
         self.assertEqual(self.on_terminal("check", RIDE), (f"{RIDE}: ok, 1 file\r\n".encode(), 0))
-        said, _ = self.on_terminal("table", "-", feed=pieces)
-        self.assertNotIn(b"\x1b", said)
-        slow = subprocess.run(["sh", "-c", '(sleep 1.3; cat "$1") | "$0" -m gazhdor check', sys.executable, RIDE],
-            stdout=subprocess.PIPE, stderr=subprocess.PIPE)
+        self.assertNotIn(b"\x1b", self.fed_slowly("show"))
+        slow = subprocess.run(["sh", "-c", '(head -c 99 "$1"; sleep 1.3; tail -c +100 "$1") | "$0" -m gazhdor check',
+            sys.executable, RIDE], stdout=subprocess.PIPE, stderr=subprocess.PIPE)
         self.assertEqual((slow.stdout, slow.stderr), (b"-: ok, 1 file\n", b""))
 
 

@@ -1,0 +1,144 @@
+/* The commands, on files one after another. */
+import { existsSync, statSync } from "node:fs"
+import { FitError, OutOfMemory, Stream } from "../gazhdor.mjs"
+import { NoFitFile, NotUnpacked } from "./archives.mjs"
+import { Input, faultOf, pathsOf } from "./inputs.mjs"
+import { NotWritten, Output, Usage, seeNoTerminal, seeOtherFiles } from "./outputs.mjs"
+import { shown } from "./progress.mjs"
+
+const KINDS = { check: "check", show: "show", table: "table", "to-csv": "toCsv", json: "messages" }
+const named = kind => (kind === null ? "" : ` (this is ${kind})`)
+const fault = text => process.stderr.write(text)
+
+/* A value as JSON has it, whole numbers with all their digits. */
+function textOf(value) {
+    if (Array.isArray(value)) return `[${value.map(textOf).join(",")}]`
+    if (typeof value === "bigint") return String(value)
+    if (Object.is(value, -0)) return "-0"
+    return JSON.stringify(value instanceof Uint8Array ? `0x${Buffer.from(value).toString("hex").toUpperCase()}` : value)
+}
+
+/* A message as a line of JSON, as the command of Python has it. */
+export function lineOf(message) {
+    const { fields: _, units, totalCycles, accumulatedPower, ...told } = message.toJSON()
+    const counted = { total_cycles: message.totalCycles, accumulated_power: message.accumulatedPower }
+    const values = [...message].map(([name, value]) => `${JSON.stringify(name)}:${textOf(value)}`)
+    const front = Object.entries({ ...told, ...counted }).filter(([name, value]) => value !== null || name === "time")
+    const begin = front.map(([name, value]) => `${JSON.stringify(name)}:${textOf(value)}`)
+    return `{${begin.join(",")},"fields":{${values.join(",")}},"units":${JSON.stringify(units)}}\n`
+}
+
+/* Does one of the commands on files. */
+class Reader {
+    #gazhdor
+    #command
+    #asked
+    #progress
+    #output
+
+    constructor(gazhdor, command, asked, progress) {
+        this.#gazhdor = gazhdor
+        this.#command = command
+        this.#asked = asked
+        this.#progress = progress
+        this.#output = new Output(command === "mend" ? asked.files[1] : asked.output, progress)
+    }
+
+    /* What is made of the pieces of a file, as they come, and how many files it is. */
+    async #streamed(input) {
+        const kind = KINDS[this.#command], options = kind === "messages" ? { words: !this.#asked.numbers } : undefined
+        const stream = new Stream(this.#gazhdor, kind, options)
+        const put = made => (kind === "check" ? undefined : this.#output.write(Array.isArray(made) ? made.map(lineOf).join("") : made))
+        try {
+            for await (const piece of input) await put(stream.feed(piece))
+            await put(stream.finish())
+        } catch (error) {
+            if (error instanceof FitError) await put(error.before)
+            throw error
+        } finally {
+            stream.close()
+        }
+        return stream.files
+    }
+
+    async #mended(name, input) {
+        const data = await input.bytes(), made = this.#gazhdor.mend(data)
+        this.#progress.clear()
+        if (!Buffer.from(made).equals(data)) fault(`${shown(name)}: ${this.#gazhdor.check(data)}; mended: ${made.length} of ${data.length} bytes\n`)
+        await this.#output.write(made)
+    }
+
+    async #made(name, input) {
+        if (this.#command === "mend") return this.#mended(name, input)
+        if (this.#command === "from-csv") return this.#output.write(this.#gazhdor.fromCsv(await input.bytes()))
+        const files = await this.#streamed(input)
+        if (this.#command === "check") await this.#checked(name, { good: true, files, place: null, reason: null, is: null, text: "ok" })
+    }
+
+    /* Writes what was found of a file. */
+    async #checked(name, told) {
+        if (this.#asked.json) await this.#output.write(`${JSON.stringify({ file: name, ...told })}\n`)
+        else if (told.text !== undefined) {
+            const count = told.good ? `, ${told.files} file${told.files > 1 ? "s" : ""}` : ""
+            await this.#output.write(`${shown(name)}: ${told.text}${count}${named(told.is)}\n`)
+        }
+    }
+
+    /* Does the command on one file, and returns the status. */
+    async done(path) {
+        const input = new Input(path, this.#progress, this.#command !== "from-csv")
+        try {
+            await this.#made(path.name, input)
+            return 0
+        } catch (error) {
+            if (error instanceof FitError) return this.#refused(path, error.answer, this.#command === "from-csv" ? input.kindOfText : input.kind)
+            if (error instanceof NoFitFile && path.found) return 0
+            if (error instanceof NotUnpacked) return this.#failed(path, 1, error.message)
+            if (error instanceof OutOfMemory) return this.#failed(path, 3, "out of memory")
+            if (error instanceof NotWritten || (error.code === undefined && path.error === undefined)) throw error
+            return this.#failed(path, 4, path.error ?? faultOf(error))
+        }
+    }
+
+    async #refused({ name }, answer, is) {
+        if (this.#command !== "check") return this.#said(name, 1, `${answer}${named(is)}`)
+        const { place, reason } = answer
+        await this.#checked(name, { good: false, files: 0, place, reason, is, text: `${answer}` })
+        return 1
+    }
+
+    async #failed({ name }, status, error) {
+        if (this.#command === "check") await this.#checked(name, { good: false, error })
+        return this.#said(name, status, error)
+    }
+
+    #said(name, status, error) {
+        this.#progress.clear()
+        fault(`${shown(name)}: ${error}\n`)
+        return status
+    }
+
+    close() { this.#output.close() }
+}
+
+/* Whether a file is there, which is no device. */
+const isThere = path => path !== undefined && path !== "-" && existsSync(path) && statSync(path).isFile()
+
+/* Does a command on all files that the words name, and returns the worst status. */
+export async function runReader(gazhdor, command, asked, progress) {
+    let names = asked.files
+    if (command === "mend") {
+        if (names.length > 2) throw new Usage("mend: it takes IN, and OUT")
+        seeNoTerminal(command, names[1])
+        if (isThere(names[1]) && !asked.force) throw new Usage(`${shown(names[1])} is there already: --force replaces it`)
+        names = names.slice(0, 1)
+    }
+    if (command === "from-csv") seeNoTerminal(command, asked.output)
+    seeOtherFiles(asked.output, names)
+    const reader = new Reader(gazhdor, command, asked, progress)
+    let worst = 0
+    for (const path of pathsOf(names, asked.recursive)) worst = Math.max(worst, await reader.done(path))
+    progress.clear()
+    if (command !== "mend" || worst === 0) reader.close()
+    return worst
+}
