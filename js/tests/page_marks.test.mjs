@@ -3,8 +3,8 @@ import assert from "node:assert/strict"
 import { readFileSync } from "node:fs"
 import { join } from "node:path"
 import { test } from "node:test"
-import { click, gazhdor, how, laid, pageWith, place, press, saved, seeQuiet, texts } from "./page_tools.mjs"
-import { run, spike, triathlon } from "./rides.mjs"
+import { click, gazhdor, handed, how, laid, pageWith, place, press, saved, seeQuiet, texts } from "./page_tools.mjs"
+import { run, spike, toAndFro, triathlon } from "./rides.mjs"
 import { RIDE } from "./tools.mjs"
 
 const CHARTS = ["speed", "heart_rate", "cadence"]
@@ -166,6 +166,11 @@ async function seeBeside() {
         ["Speed", "32.4 km/h", "4:10 /km"], ["Cadence", "85 rpm", "170 steps/min"]])
     const second = "[...document.querySelectorAll('svg .beside')].map(one => one.closest('.plot').id)"
     assert.deepEqual((await page.value(second)).sort(), ["cadence", "heart_rate", "speed", "track"])
+    // One that is stopped ends the Worker; what is saved then is of the first all the same.
+    await handed(page, laid("long.fit", toAndFro(400000)), "#other")
+    await page.until("document.querySelector('#finding button')?.textContent === 'Stop'", 10)
+    await press(page, "Stop")
+    assert.deepEqual(await saved(page, "table", "spike.table.csv"), Buffer.from(gazhdor.tableText(spike(gazhdor))))
     await press(page, "Put it away")
     assert.deepEqual(await page.value(second), [])
     assert.equal(await page.value("document.querySelector('#besides').childElementCount"), 0)

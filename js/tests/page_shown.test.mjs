@@ -4,7 +4,7 @@ import { execFileSync } from "node:child_process"
 import { join } from "node:path"
 import { test } from "node:test"
 import { Page } from "./browser.mjs"
-import { URL_OF_PAGE, browser, click, gazhdor, how, laid, pageWith, place, press, saved, seeQuiet, texts } from "./page_tools.mjs"
+import { URL_OF_PAGE, browser, click, gazhdor, handed, how, laid, pageWith, place, press, saved, seeQuiet, texts } from "./page_tools.mjs"
 import { TRIATHLON, developer, manySessions, run, spike, swim, toAndFro, triathlon } from "./rides.mjs"
 import { CC, RIDE, inTree } from "./tools.mjs"
 
@@ -15,13 +15,6 @@ new MutationObserver(() => {
     said.push(finding.textContent)
     if (bar) bars.push(bar.value)
 }).observe(document.querySelector("#finding"), { childList: true, subtree: true, characterData: true, attributes: true })`
-
-/* Hands the page a file without waiting for it. */
-async function handed(page, path) {
-    const { root } = await page.ask("DOM.getDocument")
-    const { nodeId } = await page.ask("DOM.querySelector", { nodeId: root.nodeId, selector: "#file" })
-    await page.ask("DOM.setFileInputFiles", { nodeId, files: [path] })
-}
 
 /* A long recording, of which the second file below doesn't wait. */
 function long(size) {
