@@ -66,6 +66,26 @@ async function seeDragged() {
     seeQuiet(page)
 }
 
+/* A finger points, and marks once that is asked for. */
+async function seeFinger() {
+    const page = await pageWith("run.fit", run(gazhdor), { width: 390, height: 844, scale: 2 })
+    await page.ask("Emulation.setTouchEmulationEnabled", { enabled: true })
+    await page.value("document.querySelector('#heart_rate').scrollIntoView({ block: 'center' })")
+    const { left, width, y } = await page.value(`(({ left, width, top }) => ({ left, width, y: top + 30 }))(document.querySelector("#heart_rate svg").getBoundingClientRect())`)
+    const touch = (type, ...shares) => page.ask("Input.dispatchTouchEvent", { type, touchPoints: shares.map(share => ({ x: left + share * width, y })) })
+    const draw = async () => {
+        await touch("touchStart", .3)
+        for (const share of [.4, .5, .6]) await touch("touchMove", share)
+        await touch("touchEnd")
+    }
+    await draw()
+    assert.equal(await page.value("document.querySelector('#marked').hidden"), true)
+    await press(page, "Mark with a finger")
+    await draw()
+    assert.match(await words(page, "#marked"), /^Marked part 1\.[4-9]\d km/) // 0.3 of the width, of 4.8 km over all but the labels
+    seeQuiet(page)
+}
+
 async function seeDistance() {
     const page = await pageWith("run.fit", run(gazhdor))
     await press(page, "distance")
@@ -192,6 +212,7 @@ async function seeSaved() {
 
 test("a lap that is marked", how, seeLap)
 test("a part that is drawn along", how, seeDragged)
+test("a part that is drawn along with a finger", how, seeFinger)
 test("charts by distance", how, seeDistance)
 test("keys", how, seeKeys)
 test("the track", how, seeTrack)
