@@ -41,7 +41,8 @@ export function summaryOf(ride, units, mark) {
     if (sessions.length > 1) sessions.forEach((row, k) => {
         const title = sportWord(row) || `Session ${k + 1}`
         const button = element("button", title, { type: "button", className: "plain", onclick: () => mark(row, title) })
-        parts.push(element("h2", undefined, {}, button), cardsOf(toldOf(rowTotals(row), row.sport, units)))
+        const told = toldOf(rowTotals(row), row.sport, units)
+        parts.push(element("h2", undefined, {}, button), ...(told.length > 0 ? [cardsOf(told)] : []))
     })
     return parts
 }

@@ -21,17 +21,17 @@ function chartsOf(ride, units, other, by) {
         ["temperature", "Temperature", units.temperature],
     ].filter(([name]) => ride.points[name] !== undefined).map(([name, title, quantity, filled = false]) => {
         const drawn = column => column.map(value => quantity.drawn(value)), same = other?.points[name]
-        return { key: name, colour: name, title, quantity, filled, column: drawn(ride.points[name]), beside: same && { ...beside, column: drawn(same) } }
+        return { key: name, colour: name, title, quantity, filled, column: drawn(ride.points[name]), beside: beside && same && { ...beside, column: drawn(same) } }
     })
     const own = ride.points.own.map(({ name, unit, column }, k) =>
         ({ key: `own${k}`, colour: `own${k % 3}`, title: name, quantity: ownQuantity(unit, column), filled: false, column }))
     return [...told, ...own]
 }
 
-/* Where the points of a ride beside it stand along the charts. */
+/* Where the points of a ride beside it stand along the charts; undefined where it has no such measure. */
 function besideOf(points, by) {
-    const seconds = elapsed(points)
-    return { seconds, xs: by === "distance" && points.distance !== undefined ? points.distance : seconds }
+    const seconds = elapsed(points), xs = by === "distance" ? points.distance : points.time && seconds
+    return xs && { seconds, xs }
 }
 
 /* The numbers of the marked part, and what can be done with it. */

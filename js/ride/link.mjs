@@ -1,7 +1,7 @@
 /* The page's Worker, and what it is asked. */
 import { byId } from "./element.mjs"
 
-let worker, number = 0, module
+let worker, number = 0, module, starts = 0
 const waiting = new Map()
 
 /* What came of a request that was given up because its Worker was ended. Nobody is told of it. */
@@ -19,6 +19,7 @@ export function start(failed) {
     module ??= Uint8Array.from(atob(byId("module").textContent), letter => letter.charCodeAt(0))
     const url = URL.createObjectURL(new Blob([byId("reader").textContent], { type: "text/javascript" }))
     worker = new Worker(url)
+    starts++
     URL.revokeObjectURL(url)
     worker.onmessage = ({ data }) => {
         const asked = waiting.get(data.number)
@@ -31,6 +32,9 @@ export function start(failed) {
 }
 
 export const isBusy = () => waiting.size > 0
+
+/* How many Workers there were: another one knows nothing of what was asked before. */
+export const startsSoFar = () => starts
 
 /* What a call of the Worker makes. `tell` is told of a long one the share that is done. */
 export function ask(call, data, { memory = [], tell = () => {} } = {}) {

@@ -5,7 +5,7 @@ import { Drawn } from "./charts.mjs"
 import { Curve, zonesOf } from "./effort_charts.mjs"
 import { byId, element } from "./element.mjs"
 import { say, sayFound, sayReading } from "./finding.mjs"
-import { GivenUp, ask, isBusy, start } from "./link.mjs"
+import { GivenUp, ask, isBusy, start, startsSoFar } from "./link.mjs"
 import { save } from "./saving.mjs"
 import { keep, readSettings, settings } from "./settings.mjs"
 import { soleSport } from "./sports.mjs"
@@ -51,12 +51,20 @@ function markRow(row, title) {
     byId("drawn").scrollIntoView({ block: "start", behavior: matchMedia("(prefers-reduced-motion: reduce)").matches ? "auto" : "smooth" })
 }
 
+/* Keeps what was chosen by a button, and shows the ride anew; the button that is pressed then is where the keys go. */
+function again(setting, value) {
+    const group = document.activeElement?.closest(".choice")?.getAttribute("aria-label")
+    keep(setting, value)
+    render()
+    if (group) document.querySelector(`.choice[aria-label="${group}"] [aria-pressed=true]`)?.focus()
+}
+
 /* Shows the ride anew, as after other units were chosen; what is marked and zoomed stays. */
 function render() {
     const units = unitsOf(settings.units === "miles"), { ride, name, other, view: old } = shown, view = shown.view = new View(ride)
     byId("summary").replaceChildren(...summaryOf(ride, units, markRow))
-    const again = (setting, value) => { keep(setting, value); render() }, away = () => { shown.other = null; render() }
-    const drawn = new Drawn(ride, other?.ride, { view, units, again, save: (button, span) => save(button, "gpx", name, span) })
+    const away = () => { shown.other = null; render() }
+    const drawn = new Drawn(ride, other?.ride, { view, units, again, save: (button, span) => save(button, "gpx", shown, span) })
     const curves = efforts(shown, units)
     tables(shown, units, markRow)
     byId("besides").replaceChildren(...(other ? [besideTable([ride, other.ride], [name, other.name], units, away)] : []))
@@ -66,8 +74,8 @@ function render() {
     if (old?.span) view.mark(old.span.from, old.span.to, old.span)
 }
 
-function show(name, ride) {
-    shown = { name, ride, other: null }
+function show(name, ride, bytesOf) {
+    shown = { name, ride, other: null, hold: holder(bytesOf) }
     const { points } = ride
     byId("shown").hidden = ride.counts.length === 0
     byId("saved").textContent = ""
@@ -80,6 +88,18 @@ function show(name, ride) {
 }
 
 /* ---- files */
+
+/* What sees that the Worker has the ride of which something is to be saved: another one has to get it anew. */
+function holder(bytesOf) {
+    let held = startsSoFar()
+    return async () => {
+        const now = startsSoFar()
+        if (held === now) return
+        const data = await bytesOf()
+        await ask("hold", data, { memory: [data] })
+        held = now
+    }
+}
 
 /* Takes a file: reads it, and shows it, beside the one that is shown where that is asked for. `bytesOf` gives its bytes. */
 async function taken(name, bytesOf, call = "ride") {
@@ -94,7 +114,7 @@ async function taken(name, bytesOf, call = "ride") {
         const ride = await ask(call, data, { memory: [data], tell: done => { if (isMine()) move(done) } })
         if (!isMine()) return
         sayFound(name, ride, performance.now() - began)
-        if (call === "ride") show(name, ride)
+        if (call === "ride") show(name, ride, bytesOf)
         else if (ride.counts.length > 0) {
             shown.other = { name, ride }
             render()
@@ -126,7 +146,7 @@ function chooses(input, call) {
 }
 
 function listen() {
-    for (const button of document.querySelectorAll("#save button")) button.onclick = () => save(button, button.id, shown.name)
+    for (const button of document.querySelectorAll("#save button")) button.onclick = () => save(button, button.id, shown)
     chooses(byId("file"), "ride")
     chooses(byId("other"), "beside")
     byId("example").onclick = async () => taken("example.fit", async () => (await ask("example")).buffer)

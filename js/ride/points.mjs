@@ -57,12 +57,13 @@ export class Points {
     }
 
     take(blocks) {
-        const runs = this.#walk.runs(blocks).filter(({ begin, end, length }) => {
-            if (this.#rows >= MOST_POINTS) return !(this.isCut = true)
-            this.#rows += (end - begin) / length
-            return true
+        const runs = this.#walk.runs(blocks).map(run => {
+            const rows = Math.min((run.end - run.begin) / run.length, MOST_POINTS - this.#rows), end = run.begin + rows * run.length
+            this.#rows += rows
+            this.isCut ||= end < run.end
+            return { ...run, end }
         })
-        this.#columns.take(blocks, runs)
+        this.#columns.take(blocks, runs.filter(({ begin, end }) => begin < end))
     }
 
     done() {

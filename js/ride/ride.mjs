@@ -17,9 +17,12 @@ const CALLS = {
     /* The ride of which the calls below make something. It gets an instance of the module of its own, so the memory that a long one took is
      * given back. */
     async ride({ data }, tell) {
+        await CALLS.hold({ data })
+        return rideOf(gazhdor, bytes, tell)
+    },
+    async hold({ data }) {
         bytes = new Uint8Array(data)
         gazhdor = await opened()
-        return rideOf(gazhdor, bytes, tell)
     },
     beside: async ({ data }, tell) => rideOf(await opened(), new Uint8Array(data), tell),
     example: async () => exampleRide(await opened()),

@@ -14,12 +14,13 @@ function download(name, bytes, type) {
     setTimeout(() => URL.revokeObjectURL(href), 60000)
 }
 
-/* Saves what a call makes of the ride of that name, and says so. */
-export async function save(button, call, name, data) {
+/* Saves what a call makes of a ride, of which `hold` sees that the Worker has it, and says so. */
+export async function save(button, call, { name, hold }, data) {
     const [ending, type] = KINDS[call]
     button.disabled = true
     byId("saved").textContent = ""
     try {
+        await hold()
         const bytes = await ask(call, data), whole = `${name.replace(/\.fit$/i, "")}${data === undefined ? "" : "-part"}${ending}`
         download(whole, bytes, type)
         byId("saved").textContent = `${whole}: ${bytes.length.toLocaleString("en")} bytes`

@@ -70,7 +70,7 @@ function roundLength(most, isMiles) {
     for (const [metres, unit] of units) {
         const ten = 10 ** Math.floor(Math.log10(most / metres)), step = [5, 2, 1].find(one => one * ten <= most / metres)
         const isWhole = step * ten >= 1 || unit === units[1][1]
-        if (isWhole && step !== undefined) return [step * ten * metres, `${Number((step * ten).toPrecision(1))} ${unit}`]
+        if (isWhole && step !== undefined) return [step * ten * metres, `${Number((step * ten).toPrecision(1)).toLocaleString("en")} ${unit}`]
     }
     return null
 }

@@ -3,8 +3,8 @@ import assert from "node:assert/strict"
 import { readFileSync } from "node:fs"
 import { join } from "node:path"
 import { test } from "node:test"
-import { click, gazhdor, how, laid, pageWith, place, press, saved, seeQuiet, texts } from "./page_tools.mjs"
-import { run, spike, triathlon } from "./rides.mjs"
+import { click, gazhdor, handed, how, laid, pageWith, place, press, saved, seeQuiet, texts } from "./page_tools.mjs"
+import { run, spike, toAndFro, triathlon } from "./rides.mjs"
 import { RIDE } from "./tools.mjs"
 
 const CHARTS = ["speed", "heart_rate", "cadence"]
@@ -63,6 +63,26 @@ async function seeDragged() {
     assert.equal(points - 1, 60 * told[2] + Number(told[3]))
     await press(page, "distance") // what is marked stays
     assert.match(await words(page, "#marked"), new RegExp(`^Marked part ${told[1]} km`))
+    seeQuiet(page)
+}
+
+/* A finger points, and marks once that is asked for. */
+async function seeFinger() {
+    const page = await pageWith("run.fit", run(gazhdor), { width: 390, height: 844, scale: 2 })
+    await page.ask("Emulation.setTouchEmulationEnabled", { enabled: true })
+    await page.value("document.querySelector('#heart_rate').scrollIntoView({ block: 'center' })")
+    const { left, width, y } = await page.value(`(({ left, width, top }) => ({ left, width, y: top + 30 }))(document.querySelector("#heart_rate svg").getBoundingClientRect())`)
+    const touch = (type, ...shares) => page.ask("Input.dispatchTouchEvent", { type, touchPoints: shares.map(share => ({ x: left + share * width, y })) })
+    const draw = async () => {
+        await touch("touchStart", .3)
+        for (const share of [.4, .5, .6]) await touch("touchMove", share)
+        await touch("touchEnd")
+    }
+    await draw()
+    assert.equal(await page.value("document.querySelector('#marked').hidden"), true)
+    await press(page, "Mark with a finger")
+    await draw()
+    assert.match(await words(page, "#marked"), /^Marked part 1\.[4-9]\d km/) // 0.3 of the width, of 4.8 km over all but the labels
     seeQuiet(page)
 }
 
@@ -166,6 +186,11 @@ async function seeBeside() {
         ["Speed", "32.4 km/h", "4:10 /km"], ["Cadence", "85 rpm", "170 steps/min"]])
     const second = "[...document.querySelectorAll('svg .beside')].map(one => one.closest('.plot').id)"
     assert.deepEqual((await page.value(second)).sort(), ["cadence", "heart_rate", "speed", "track"])
+    // One that is stopped ends the Worker; what is saved then is of the first all the same.
+    await handed(page, laid("long.fit", toAndFro(400000)), "#other")
+    await page.until("document.querySelector('#finding button')?.textContent === 'Stop'", 10)
+    await press(page, "Stop")
+    assert.deepEqual(await saved(page, "table", "spike.table.csv"), Buffer.from(gazhdor.tableText(spike(gazhdor))))
     await press(page, "Put it away")
     assert.deepEqual(await page.value(second), [])
     assert.equal(await page.value("document.querySelector('#besides').childElementCount"), 0)
@@ -187,6 +212,7 @@ async function seeSaved() {
 
 test("a lap that is marked", how, seeLap)
 test("a part that is drawn along", how, seeDragged)
+test("a part that is drawn along with a finger", how, seeFinger)
 test("charts by distance", how, seeDistance)
 test("keys", how, seeKeys)
 test("the track", how, seeTrack)

@@ -4,8 +4,8 @@ import { execFileSync } from "node:child_process"
 import { join } from "node:path"
 import { test } from "node:test"
 import { Page } from "./browser.mjs"
-import { URL_OF_PAGE, browser, click, gazhdor, how, laid, pageWith, place, press, saved, seeQuiet, texts } from "./page_tools.mjs"
-import { TRIATHLON, developer, run, spike, swim, triathlon } from "./rides.mjs"
+import { URL_OF_PAGE, browser, click, gazhdor, handed, how, laid, pageWith, place, press, saved, seeQuiet, texts } from "./page_tools.mjs"
+import { TRIATHLON, developer, manySessions, run, spike, swim, toAndFro, triathlon } from "./rides.mjs"
 import { CC, RIDE, inTree } from "./tools.mjs"
 
 /* Keeps whatever the page says of a file, and how far its bar is, from now on. */
@@ -15,13 +15,6 @@ new MutationObserver(() => {
     said.push(finding.textContent)
     if (bar) bars.push(bar.value)
 }).observe(document.querySelector("#finding"), { childList: true, subtree: true, characterData: true, attributes: true })`
-
-/* Hands the page a file without waiting for it. */
-async function handed(page, path) {
-    const { root } = await page.ask("DOM.getDocument")
-    const { nodeId } = await page.ask("DOM.querySelector", { nodeId: root.nodeId, selector: "#file" })
-    await page.ask("DOM.setFileInputFiles", { nodeId, files: [path] })
-}
 
 /* A long recording, of which the second file below doesn't wait. */
 function long(size) {
@@ -179,6 +172,18 @@ async function seeDeveloper() {
     seeQuiet(page)
 }
 
+/* However many times, places and messages a file has, and however they go to and fro, the page has only so many elements and so long a line. */
+async function seeBounded() {
+    for (const [name, bytes] of [["to-and-fro.fit", toAndFro(200000)], ["sessions.fit", manySessions(50000)]]) {
+        const page = await pageWith(name, bytes)
+        assert.match(await page.text("#finding"), /: refused at byte \d+: FileSum/)
+        assert.ok(await page.value("document.querySelectorAll('*').length") < 3000, name)
+        const longest = await page.value("Math.max(0, ...[...document.querySelectorAll('path[d]')].map(path => path.getAttribute('d').length))")
+        assert.ok(longest < 2e6, `${name}: ${longest}`)
+        seeQuiet(page)
+    }
+}
+
 test("nothing false is said meanwhile", how, seeMeanwhile)
 test("the same file again, and one that is stopped", how, seeAgain)
 test("a bar while 20 MB are read", CC === undefined ? { skip: "there is no C compiler" } : how, seeBar)
@@ -189,3 +194,4 @@ test("labels of the lines", how, seeLabels)
 test("each session, a run and a swim in their own units", how, seeSports)
 test("a page without a file", how, seeEmpty)
 test("developer fields", how, seeDeveloper)
+test("bounds for hostile files", how, seeBounded)

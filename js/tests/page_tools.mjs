@@ -34,6 +34,13 @@ export async function pageWith(name, bytes, { hash = "", ...size } = {}) {
     return page
 }
 
+/* Hands the page a file without waiting for it. */
+export async function handed(page, path, input = "#file") {
+    const { root } = await page.ask("DOM.getDocument")
+    const { nodeId } = await page.ask("DOM.querySelector", { nodeId: root.nodeId, selector: input })
+    await page.ask("DOM.setFileInputFiles", { nodeId, files: [path] })
+}
+
 export const click = (page, selector) => page.value(`document.querySelector(${JSON.stringify(selector)}).click()`)
 
 /* Presses the button of the page that has such a text. */

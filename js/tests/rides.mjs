@@ -130,3 +130,33 @@ export function developer(gazhdor) {
     for (const values of seconds(600, { speed: 3 })) made.add(1, ...values, "235.8", bits(37.5), 60 + k++ % 20)
     return made.made(gazhdor)
 }
+
+/* A file of one definition, of fields as [number, base type], and of messages that `fill` writes; its sum is wrong, which shows at its end alone. */
+function plain(message, fields, count, fill) {
+    const size = 1 + fields.reduce((sum, [, type]) => sum + SIZES[type], 0)
+    const head = [0x40, 0, 0, message, 0, fields.length, ...fields.flatMap(([number, type]) => [number, SIZES[type], type])]
+    const bytes = new Uint8Array(12 + head.length + size * count + 2), view = new DataView(bytes.buffer)
+    bytes.set([12, 32, 0, 0, 0, 0, 0, 0, 0x2e, 0x46, 0x49, 0x54, ...head])
+    view.setUint32(4, head.length + size * count, true)
+    for (let k = 0; k < count; k++) fill(view, 12 + head.length + size * k + 1, k)
+    return bytes
+}
+
+/* Records whose times and places go from one end to the other, with any altitude and heart rate. */
+export function toAndFro(count) {
+    return plain(20, [[253, 134], [0, 133], [1, 133], [2, 132], [3, 2]], count, (view, at, k) => {
+        view.setUint32(at, k % 2 ? 4294967294 : 300000000 + k, true)
+        view.setInt32(at + 4, (k % 2 ? 1 : -1) * 1e9 + k, true)
+        view.setInt32(at + 8, (k % 2 ? 1 : -1) * 2e9, true)
+        view.setUint16(at + 12, k * 7919 % 65535, true)
+        view.setUint8(at + 14, k * 31 % 255)
+    })
+}
+
+/* So many sessions, each of another sport. */
+export function manySessions(count) {
+    return plain(18, [[2, 134], [5, 0]], count, (view, at, k) => {
+        view.setUint32(at, 1e9 + k, true)
+        view.setUint8(at + 4, k % 255)
+    })
+}
