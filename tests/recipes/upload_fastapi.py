@@ -13,4 +13,4 @@ assert answer.status_code == 200 and answer.json() == [{'start': '2026-05-17T07:
 answer = client.post('/rides', content=b'<gpx' + ride)
 assert answer.status_code == 422 and answer.json()['detail'].startswith('refused at byte '), answer.text
 assert client.post('/rides', content=ride[:1000]).json() == {'detail': 'truncated at byte 1000'}
-assert client.post('/rides', content=ride * 300).status_code == 413
+assert client.post('/rides', content=ride * 400).status_code == 413

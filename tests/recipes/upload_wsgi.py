@@ -17,7 +17,7 @@ with open('activity.fit', 'rb') as file:
     ride = file.read()
 assert ask(ride) == ('200 OK', '1 files')
 assert ask(ride + ride) == ('200 OK', '2 files')
-assert ask(b'') == ('422 Unprocessable Entity', 'truncated at byte 0: The bytes end too soon: a file goes on after byte 0.') or ask(b'')[0][:3] == '422'
+assert ask(b'')[1].startswith('truncated at byte 0: ')
 status, said = ask(b'PK' + ride[2:])
 assert status[:3] == '422' and said.startswith('refused at byte 1: Protocol: '), said
 assert ask(ride[:1000])[1].startswith('truncated at byte 1000: ')
