@@ -7,6 +7,7 @@ import json
 import os
 import pty
 import select
+import shutil
 import signal
 import subprocess
 import sys
@@ -15,13 +16,13 @@ import time
 import unittest
 import zipfile
 
-from support import BYTES, RIDE, VERSION, bytes_at, folder, in_tree, text_at
+from support import BYTES, RIDE, VERSION, bytes_at, folder, in_tree, left_out, text_at
 
 import gazhdor
 from gazhdor._command.archives import MOST, NotUnpacked
 from gazhdor._command.inputs import Input
 from gazhdor._command.kinds import kind_of
-from gazhdor._command.parsing import COMMANDS
+from gazhdor._command.parsing import COMMANDS, parser_of
 from gazhdor._command.progress import Progress
 
 WORK = folder()
@@ -116,6 +117,38 @@ class Words(unittest.TestCase):
         self.assertEqual(command("from-csv", "-o", into, input=text).returncode, 0)
         self.assertEqual(bytes_at(into), BYTES)
         self.assertEqual(command("table", "--output", WORK, RIDE).returncode, 4)
+
+
+class Pages(unittest.TestCase):
+    """The page and the completions have each command and each option that the parser has."""
+
+    def told(self, name):
+        return text_at(in_tree(f"packages/python3/{name}"))
+
+    def test_commands(self):
+        page = self.told("gazhdor.1").replace("\\-", "-")
+        for name in ("gazhdor.bash", "_gazhdor", "gazhdor.fish"):
+            for command in (*COMMANDS, "help"):
+                self.assertRegex(self.told(name), rf"\b{command}\b", (name, command))
+        for command in COMMANDS:
+            self.assertRegex(page, rf"(?m)^\.BR? .*\b{command}\b", command)
+            parser = parser_of("gazhdor", command)
+            for option in (option for action in parser._actions for option in action.option_strings if option[:2] == "--"):
+                self.assertIn(option, page)
+                self.assertIn(f"-l {option[2:]} ", self.told("gazhdor.fish"))
+                for name in ("gazhdor.bash", "_gazhdor"):
+                    self.assertIn(option, self.told(name), (name, option))
+
+    def test_bash(self):
+        """What bash puts after some words, where it is installed."""
+        if not shutil.which("bash"):
+            left_out("there is no bash, so its completion is not tried")
+        for words, wanted in ((["jo"], "join"), (["edit", "--f"], "--from"), (["json", "--n"], "--names --numbers"),
+                (["help", "me"], "mend"), (["check", "ri"], "ride.fit"), (["frob", ""], "")):
+            script = '. "$0"; COMP_WORDS=(gazhdor "$@"); COMP_CWORD=$#; _gazhdor 2>/dev/null; echo "${COMPREPLY[*]}"'
+            done = subprocess.run(["bash", "-c", script, in_tree("packages/python3/gazhdor.bash"), *words],
+                cwd=in_tree("examples"), stdout=subprocess.PIPE, check=True)
+            self.assertEqual(done.stdout.decode().strip(), wanted, words)
 
 
 class Check(unittest.TestCase):
