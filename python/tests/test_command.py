@@ -133,7 +133,8 @@ class Pages(unittest.TestCase):
         for command in COMMANDS:
             self.assertRegex(page, rf"(?m)^\.BR? .*\b{command}\b", command)
             parser = parser_of("gazhdor", command)
-            for option in (option for action in parser._actions for option in action.option_strings if option[:2] == "--"):
+            options = [option for action in parser._actions for option in action.option_strings]
+            for option in (option for option in options if option.startswith("--")):
                 self.assertIn(option, page)
                 self.assertIn(f"-l {option[2:]} ", self.told("gazhdor.fish"))
                 for name in ("gazhdor.bash", "_gazhdor"):

@@ -1,4 +1,5 @@
 """What a file is that is no FIT file, by its first bytes."""
+import codecs
 from typing import Optional
 
 FRONT = 512  # so many bytes are looked at
@@ -40,11 +41,9 @@ def _text(front: bytes) -> Optional[str]:
     if front[:2] in (b"\xff\xfe", b"\xfe\xff"):
         return front.decode("utf-16", "replace")
     try:
-        text = front.decode("utf-8-sig")
-    except UnicodeDecodeError as error:
-        if error.start < len(front) - 3:
-            return None
-        text = front[: error.start].decode("utf-8-sig", "replace")
+        text = codecs.getincrementaldecoder("utf-8-sig")().decode(front)
+    except UnicodeDecodeError:
+        return None
     is_text = all(letter.isprintable() or letter in "\r\n\t\f" for letter in text) and text.strip()
     return text if is_text else None
 
