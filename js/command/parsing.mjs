@@ -16,7 +16,8 @@ export const COMMANDS = {
     "to-csv": { ...TEXTS, summary: "write all of a file as CSV, of which from-csv makes it again" },
     "from-csv": { options: OUTPUT, words: "[-o OUT] [FILE]..", summary: "make the FIT file that such a CSV describes" },
     json: {
-        options: { ...RECURSIVE, ...OUTPUT, numbers: { type: "boolean" } }, words: "[-r] [-o OUT] [--numbers] [FILE]..",
+        options: { ...RECURSIVE, ...OUTPUT, numbers: { type: "boolean" }, ready: { type: "boolean" } },
+        words: "[-r] [-o OUT] [--numbers | --ready] [FILE]..",
         summary: "write a line of JSON for each message",
     },
     mend: {
@@ -31,6 +32,7 @@ const SAYS = {
     output: ["-o, --output OUT", "write to this file"],
     json: ["--json", "write a line of JSON for each FILE"],
     numbers: ["--numbers", "write numbers where there are words for them, as 2 for cycling"],
+    ready: ["--ready", "write values ready to use: times as texts, places in degrees"],
     force: ["-f, --force", "write OUT also where it is there already"],
 }
 const HELP = { help: { type: "boolean", short: "h" } }

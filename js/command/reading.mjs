@@ -15,7 +15,8 @@ function textOf(value) {
     if (Array.isArray(value)) return `[${value.map(textOf).join(",")}]`
     if (typeof value === "bigint") return String(value)
     if (Object.is(value, -0)) return "-0"
-    return JSON.stringify(value instanceof Uint8Array ? `0x${Buffer.from(value).toString("hex").toUpperCase()}` : value)
+    const text = JSON.stringify(value instanceof Uint8Array ? `0x${Buffer.from(value).toString("hex").toUpperCase()}` : value)
+    return typeof value === "string" ? text.replace(/[\x85\u2028\u2029]/g, end => `\\u${end.charCodeAt(0).toString(16).padStart(4, "0")}`) : text
 }
 
 /* A message as a line of JSON, as the command of Python has it. */
@@ -26,6 +27,14 @@ export function lineOf(message) {
     const front = Object.entries({ ...told, ...counted }).filter(([name, value]) => value !== null || name === "time")
     const begin = front.map(([name, value]) => `${JSON.stringify(name)}:${textOf(value)}`)
     return `{${begin.join(",")},"fields":{${values.join(",")}},"units":${JSON.stringify(units)}}\n`
+}
+
+/* The same with values ready to use, times as texts. */
+export function readyLineOf(message) {
+    const { number, file, place, local, time } = message, text = value => (value instanceof Date ? value.toISOString().replace(".000Z", "Z") : value)
+    const fields = Object.entries(message.ready()).map(([name, value]) => `${JSON.stringify(name)}:${textOf(text(value))}`)
+    const front = Object.entries({ message: message.name ?? `message_${number}`, number, file, place, local, time: text(time) })
+    return `{${front.map(([name, value]) => `${JSON.stringify(name)}:${textOf(value)}`).join(",")},"fields":{${fields.join(",")}}}\n`
 }
 
 /* Does one of the commands on files. */
@@ -48,7 +57,8 @@ class Reader {
     async #streamed(input) {
         const kind = KINDS[this.#command], options = kind === "messages" ? { words: !this.#asked.numbers } : undefined
         const stream = new Stream(this.#gazhdor, kind, options)
-        const put = made => (kind === "check" ? undefined : this.#output.write(Array.isArray(made) ? made.map(lineOf).join("") : made))
+        const line = this.#asked.ready ? readyLineOf : lineOf
+        const put = made => (kind === "check" ? undefined : this.#output.write(Array.isArray(made) ? made.map(line).join("") : made))
         try {
             for await (const piece of input) await put(stream.feed(piece))
             await put(stream.finish())

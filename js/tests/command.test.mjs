@@ -218,11 +218,13 @@ test("the command of Python says the same", needs("python3"), async () => {
         const plain = words[1] === "--json" ? text => text.trim().split("\n").map(JSON.parse) : text => text
         assert.deepEqual([status, plain(said), faults], [other.status, plain(`${other.stdout}`), `${other.stderr}`], words.join(" "))
     }
-    for (const more of [[], ["--numbers"]]) {
+    for (const more of [[], ["--numbers"], ["--ready"]]) {
         const lines = said => `${said}`.trim().split("\n")
         const [own, other] = [command(["json", ...more, ...paths], "", { maxBuffer: 2 ** 28 }).said, python(["json", ...more, ...paths]).stdout].map(lines)
         assert.equal(own.length, other.length)
-        own.forEach((line, k) => assert.deepEqual(JSON.parse(line), JSON.parse(other[k])))
+        // Of values ready to use a number that is no exact one is a text in JavaScript.
+        const number = (_, value) => (typeof value === "string" && /^-?\d{16,}$/.test(value) ? Number(value) : value)
+        own.forEach((line, k) => assert.deepEqual(JSON.parse(line, number), JSON.parse(other[k], number)))
     }
 })
 

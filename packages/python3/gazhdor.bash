@@ -9,9 +9,9 @@ _gazhdor() {
     case ${COMP_WORDS[1]} in
     check) options='--recursive --json' ;;
     show | table | to-csv | gpx) options='--recursive --output' ;;
-    json) options='--recursive --output --extra --names --numbers' ;;
+    json) options='--recursive --output --extra --names --numbers --ready' ;;
     from-csv) options=--output kind='csv|CSV' ;;
-    mend) options=--force ;;
+    mend) options='--force --whole' ;;
     edit) options='--drop --shift --from --to' ;;
     join) options=--one ;;
     help) kind='' options='check show table to-csv from-csv json gpx mend edit join' ;;

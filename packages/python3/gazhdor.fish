@@ -18,6 +18,8 @@ complete -c gazhdor -n '__fish_seen_subcommand_from check' -l json -d 'write a l
 complete -c gazhdor -n '__fish_seen_subcommand_from json' -l extra -d 'name more fields'
 complete -c gazhdor -n '__fish_seen_subcommand_from json' -l names -r -F -d 'name fields as this text says'
 complete -c gazhdor -n '__fish_seen_subcommand_from json' -l numbers -d 'write numbers'
+complete -c gazhdor -n '__fish_seen_subcommand_from json' -l ready -d 'write values ready to use'
+complete -c gazhdor -n '__fish_seen_subcommand_from mend' -l whole -d 'add what is lacking'
 complete -c gazhdor -n '__fish_seen_subcommand_from mend' -s f -l force -d 'replace OUT'
 complete -c gazhdor -n '__fish_seen_subcommand_from edit' -l drop -x -d 'empty a field'
 complete -c gazhdor -n '__fish_seen_subcommand_from edit' -l shift -x -d 'move all times'

@@ -144,7 +144,7 @@ class Pages(unittest.TestCase):
         """What bash puts after some words, where it is installed."""
         if not shutil.which("bash"):
             left_out("there is no bash, so its completion is not tried")
-        for words, wanted in ((["jo"], "join"), (["edit", "--f"], "--from"), (["json", "--n"], "--names --numbers"),
+        for words, wanted in ((["jo"], "join"), (["edit", "--f"], "--from"), (["json", "--nu"], "--numbers"),
                 (["help", "me"], "mend"), (["check", "ri"], "ride.fit"), (["frob", ""], "")):
             script = '. "$0"; COMP_WORDS=(gazhdor "$@"); COMP_CWORD=$#; _gazhdor 2>/dev/null; echo "${COMPREPLY[*]}"'
             done = subprocess.run(["bash", "-c", script, in_tree("packages/python3/gazhdor.bash"), *words],

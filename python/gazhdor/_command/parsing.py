@@ -21,7 +21,8 @@ COMMANDS = {
     "to-csv": Command("[-r] [-o OUT] [FILE]..", "write all of a file as CSV, of which from-csv makes it again"),
     "from-csv": Command("[-o OUT] [FILE]..", "make the FIT file that such a CSV describes"),
     "json": Command(
-        "[-r] [-o OUT] [--extra] [--names TSV].. [--numbers] [FILE]..", "write a line of JSON for each message"
+        "[-r] [-o OUT] [--extra] [--names TSV].. [--numbers | --ready] [FILE]..",
+        "write a line of JSON for each message",
     ),
     "gpx": Command("[-r] [-o OUT] [FILE]..", "write the track as GPX"),
     "mend": Command("[-f] [--whole] [IN [OUT]]", "make a good file of one that was broken off or is damaged"),
@@ -90,6 +91,7 @@ def _json(add: Any) -> None:
     add("--extra", action="append_const", dest="names", const=None, help=what)
     add("--names", action="append", metavar="TSV", help="name fields and messages as this text says")
     add("--numbers", action="store_true", help="write numbers where there are words for them, as 2 for cycling")
+    add("--ready", action="store_true", help="write values ready to use: times as texts, places in degrees")
 
 
 def _mend(add: Any) -> None:

@@ -9,7 +9,7 @@ from typing import Any, Optional
 
 from .. import EXTRA, Answer, FitError, Names, check, from_csv
 from .._read.gpx_parts import parts
-from .._read.json_lines import line
+from .._read.json_lines import line, ready_line
 from .._read.streams import each, messages
 from .._sources import bytes_of
 from .archives import NotUnpacked
@@ -51,8 +51,9 @@ class _Reader:
         elif command == "from-csv":
             yield from_csv(bytes_of(source))
         elif command == "json":
+            line_of = ready_line if self._asked.ready else line
             for message in messages(source, partial=True, names=self._names, words=not self._asked.numbers):
-                yield f"{line(message)}\n".encode()
+                yield f"{line_of(message)}\n".encode()
         elif command == "gpx":
             yield from (part.encode() for part in parts(source, partial=True))
         else:

@@ -82,3 +82,17 @@ def line(message: "Message") -> str:
     parts.extend([front + _value(read(block)) for front, read in known.fields])
     parts.append(known.units)
     return "".join(parts)
+
+
+def ready_line(message: "Message") -> str:
+    """The message as a line of JSON whose values are ready to use, as `Message.ready` gives them: times as texts."""
+    known = {"message": message.name or f"message_{message.number}", "number": message.number}
+    where = {"file": message.file, "place": message.place, "local": message.local, "time": _shown(message.time)}
+    return _text({**known, **where, "fields": {name: _shown(value) for name, value in message.ready().items()}})
+
+
+def _shown(value: Any) -> Any:
+    """A value, of a time its text; one in UTC ends in Z."""
+    if not isinstance(value, datetime.datetime):
+        return value
+    return value.isoformat()[:19] + ("Z" if value.tzinfo else "")
