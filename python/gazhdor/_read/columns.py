@@ -76,7 +76,9 @@ def lists(
     table = Table(_asked(message, fields, times, names, words, ready), ready_values if ready else Part.values)
     table.read(source, partial)
     found = {key: _list(table, table.pieces(key)) for key in table.keys}
-    return {**spread({label(key): values for key, values in found.items()})} if ready else found
+    if not ready:
+        return found
+    return {name: values for name, values in spread({label(key): values for key, values in found.items()}).items()}
 
 
 # ---- arrays

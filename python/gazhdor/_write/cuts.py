@@ -217,7 +217,7 @@ class Part:
 
         def up_to(time: int) -> int:
             ran = timer.ran(first, min(max(time, first), last))
-            return calories * ran // whole if whole else calories * (time >= last)
+            return int(calories * ran // whole if whole else calories * (time >= last))
 
         begin, end = self._span
         # the second with which it begins, or ends, is mostly no part of it

@@ -133,7 +133,8 @@ class Shapes:
             found = self._developers.get(key)  # type: ignore[arg-type]
         if found is None or isinstance(key, str) and key in _known(self._message, self._names):
             if isinstance(key, tuple):
-                raise UnknownName("the file describes no developer field", label(key), self._described())
+                told_key: Any = key
+                raise UnknownName("the file describes no developer field", label(told_key), self._described())
             return None
         if told is not None and base_named(told).code != found.base:
             raise ValueError(f"{found.name!r} is described as {base_of(found.base).name}")
