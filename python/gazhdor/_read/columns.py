@@ -26,9 +26,7 @@ def _needed(name: str) -> Any:
         raise ModuleNotFoundError(what, name=error.name) from None
 
 
-def _asked(
-    message: Kind, fields: Optional[Iterable[Key]], times: bool, names: Told, words: bool, ready: bool
-) -> Asked:
+def _asked(message: Kind, fields: Optional[Iterable[Key]], times: bool, names: Told, words: bool, ready: bool) -> Asked:
     if isinstance(fields, (str, int)):
         raise TypeError("the fields are a list of names, and not one name")
     keys = None if fields is None else list(fields)
@@ -76,7 +74,11 @@ def lists(
     table = Table(_asked(message, fields, times, names, words, ready), ready_values if ready else Part.values)
     table.read(source, partial)
     found = {key: _list(table, table.pieces(key)) for key in table.keys}
-    return {**spread({label(key): values for key, values in found.items()})} if ready else found
+    if not ready:
+        return found
+    made: dict[Key, list[Any]] = {}
+    made.update(spread({label(key): values for key, values in found.items()}).items())
+    return made
 
 
 # ---- arrays

@@ -10,5 +10,6 @@ def time_of(entry: Entry, block: bytes) -> Optional[Time]:
     """The time of a field that is one: one by the clock of the place has no zone."""
     seconds: Any = entry.read(block)
     time = when(seconds)
-    is_local = entry.type == "local_date_time" and isinstance(time, datetime.datetime)
-    return time.replace(tzinfo=None) if is_local else time  # type: ignore[union-attr]
+    if entry.type == "local_date_time" and isinstance(time, datetime.datetime):
+        return time.replace(tzinfo=None)
+    return time

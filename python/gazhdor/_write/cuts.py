@@ -216,7 +216,7 @@ class Part:
             return {}
 
         def up_to(time: int) -> int:
-            ran = timer.ran(first, min(max(time, first), last))
+            ran: int = timer.ran(first, min(max(time, first), last))
             return calories * ran // whole if whole else calories * (time >= last)
 
         begin, end = self._span

@@ -79,7 +79,7 @@ def _is_too_coarse(times: Any) -> bool:
     import numpy
 
     unit, _ = numpy.datetime_data(times.dtype)
-    return unit in COARSE and bool((numpy.abs(times.astype("i8")) >= MOST_COARSE).any())
+    return bool(unit in COARSE and (numpy.abs(times.astype("i8")) >= MOST_COARSE).any())
 
 
 def _packed(pack: Packer, items: Any, none: Any) -> Optional[memoryview]:
