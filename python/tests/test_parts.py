@@ -215,7 +215,7 @@ class Parts(unittest.TestCase):
                 )
 
     def test_activities(self):
-        """300 activities: what is lost is only what lies between the last record of a part and the first of the next."""
+        """300 activities: what is lost lies between the last record of a part and the first of the next one."""
         with concurrent.futures.ProcessPoolExecutor() as pool:
             self.assertEqual(sum(pool.map(see_activity, range(300), chunksize=10)), 300)
 

@@ -33,7 +33,7 @@ class _Ride:
             made.append(Anew("lap", {"message_index": len(told.of[LAP]), **lap, **LAP_ENDS}))
         # laps that go on after the last record are those of a file that has more, and was broken off
         is_cut = any(last > end for _, (_, last) in spans)
-        ran = told.timer.ran(start, end) if is_cut else sum(timers)
+        ran = float(told.timer.ran(start, end)) if is_cut else float(sum(timers))
         counts = {"first_lap_index": 0, "num_laps": len(timers)}
         values = {"message_index": 0, **self.all.told(start, end, ran), **(sport or told.sport), **counts}
         made.append(Anew("session", {**values, **SESSION_ENDS}))
