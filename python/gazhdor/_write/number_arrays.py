@@ -71,7 +71,7 @@ def items_of_array(pack: Packer, column: Any) -> Optional[memoryview]:
 def _are_doubles(column: list[Any]) -> bool:
     """Whether a double has each whole number of a list just as it is."""
     found = [number for number in column if number is not None]
-    return -(2**53) < min(found) and max(found) < 2**53
+    return bool(-(2**53) < min(found) and max(found) < 2**53)
 
 
 def _is_too_coarse(times: Any) -> bool:
