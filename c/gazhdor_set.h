@@ -98,7 +98,7 @@ static inline uint32_t gazhdor_set_float(gazhdor_writer *to, gazhdor_field field
 }
 
 /* Sets item k of a field, counted from 0, to the one nearest to this number in the field's unit, by exact arithmetic; halfway between two
- * to the one away from zero. GAZHDOR_PUT_RANGE where that is too small or too large for an item, or stands for no value. What gazhdor_value
+ * to the one away from zero; of NAN to the one that stands for no value. GAZHDOR_PUT_RANGE where that is too small or too large for an item, or stands for no value. What gazhdor_value
  * gives of an item sets it again, where item and item - offset * scale have at most 52 bits. */
 static inline uint32_t gazhdor_set_value(gazhdor_writer *to, gazhdor_field field, size_t k, double value)
 {
@@ -107,7 +107,7 @@ static inline uint32_t gazhdor_set_value(gazhdor_writer *to, gazhdor_field field
     if (field.kind > GAZHDOR_FLOAT)
         return GAZHDOR_PUT_KIND;
     if (value != value)
-        return GAZHDOR_PUT_NAN;
+        return gazhdor_set_number(to, field, k, field.invalid);
     if (field.scale == 0)
         return GAZHDOR_PUT_RANGE;
     if (field.kind == GAZHDOR_FLOAT)

@@ -35,7 +35,7 @@ enum gazhdor_put {
     GAZHDOR_PUT_LENGTH = 6, /* Text or items are too long or too short, or a block isn't whole. */
     GAZHDOR_PUT_KIND = 7,   /* The field has no numbers, or no text. */
     GAZHDOR_PUT_RANGE = 8,  /* The number has no place there, or stands for no value. */
-    GAZHDOR_PUT_NAN = 9     /* The value isn't a number. */
+    GAZHDOR_PUT_NAN = 9     /* What no call answers any more: NAN is no value. */
 };
 
 #define GAZHDOR_NOWHERE (~GAZHDOR_CAST(size_t, 0))

@@ -89,6 +89,8 @@ int main(int argc, char **argv)
     gazhdor_stream stream = GAZHDOR_CLOSED_STREAM;
     gazhdor_answer answer = run(&stream, kind, &at);
     gazhdor_close(&stream);
+    if (at.unknown != 0) /* Where memory was refused for a definition. */
+        fprintf(stderr, "%llu messages without their definition\n", (unsigned long long)at.unknown);
     gazhdor_forget(&at);
     if (ferror(stdin) || ferror(stdout)) {
         fprintf(stderr, ferror(stdin) ? "read fault\n" : "write fault\n");

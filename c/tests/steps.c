@@ -22,15 +22,13 @@ static uint64_t item(const gazhdor_writer *to, gazhdor_field field)
     return raw;
 }
 
-/* Whether an item comes back by its value. One that stands for no value has none. */
+/* Whether an item comes back by its value, which is NAN of one that stands for no value. */
 static int comes_back(gazhdor_writer *to, gazhdor_field field, uint64_t raw)
 {
     if (gazhdor_set_number(to, field, 0, raw) != GAZHDOR_PUT)
         return 0;
     double value = gazhdor_value(field, gazhdor_block_at(to, to->message), 0);
     gazhdor_set_number(to, field, 0, 1);
-    if (raw == field.invalid)
-        return gazhdor_set_value(to, field, 0, value) == GAZHDOR_PUT_NAN && item(to, field) == 1;
     return gazhdor_set_value(to, field, 0, value) == GAZHDOR_PUT && item(to, field) == raw;
 }
 

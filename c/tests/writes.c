@@ -199,7 +199,7 @@ static void values(gazhdor_writer *to)
     ANSWERS(to, GAZHDOR_PUT_KIND, gazhdor_set_value(to, f[1], 0, 1));
     ANSWERS(to, GAZHDOR_PUT_KIND, gazhdor_set_value(to, f[2], 0, 1));
     ANSWERS(to, GAZHDOR_PUT_KIND, gazhdor_set_text(to, f[0], "a"));
-    ANSWERS(to, GAZHDOR_PUT_NAN, gazhdor_set_value(to, f[0], 0, NAN));
+    WANT(gazhdor_set_value(to, f[0], 0, NAN) == GAZHDOR_PUT && !gazhdor_raw(f[0], gazhdor_block_at(to, to->message), 0, NULL));
     ANSWERS(to, GAZHDOR_PUT_RANGE, gazhdor_set_value(to, gazhdor_scaled(f[0], 0, 0), 0, 1));
     ANSWERS(to, GAZHDOR_PUT_RANGE, gazhdor_set_number(to, f[0], 0, 256));
     ANSWERS(to, GAZHDOR_PUT_RANGE, gazhdor_set_number(to, f[3], 0, 0x8000));

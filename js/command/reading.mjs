@@ -26,7 +26,9 @@ export function lineOf(message) {
     const values = [...message].map(([name, value]) => `${JSON.stringify(name)}:${textOf(value)}`)
     const front = Object.entries({ ...told, ...counted }).filter(([name, value]) => value !== null || name === "time")
     const begin = front.map(([name, value]) => `${JSON.stringify(name)}:${textOf(value)}`)
-    return `{${begin.join(",")},"fields":{${values.join(",")}},"units":${JSON.stringify(units)}}\n`
+    const line = `{${begin.join(",")},"fields":{${values.join(",")}},"units":${JSON.stringify(units)}}`
+    // Some programs take these for the end of a line.
+    return `${line.replace(/[\x85\u2028\u2029]/g, end => `\\u${end.charCodeAt(0).toString(16).padStart(4, "0")}`)}\n`
 }
 
 /* The same with values ready to use, times as texts. */

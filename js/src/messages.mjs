@@ -5,13 +5,13 @@ import {
     AT_MESSAGE_OFFSET, AT_MESSAGE_POWER, AT_MESSAGE_SPEED, AT_MESSAGE_TIME, AT_PLACE, DEFINITION, MESSAGE, NO_OFFSET,
     TOLD_CYCLES, TOLD_DISTANCE, TOLD_HEADER_TIME, TOLD_POWER, TOLD_SPEED, TOLD_TIME,
 } from "./numbers.mjs"
-import { degrees, hex, when } from "./plain.mjs"
+import { SYSTEM_TIMES, degrees, hex, milliseconds, when } from "./plain.mjs"
 import { seeMessage } from "./profile.mjs"
 import { readyOf } from "./ready.mjs"
 import { Definition, exactOf, rawOf, whole } from "./values.mjs"
 import { wordOf } from "./words.mjs"
 
-export { degrees, when }
+export { SYSTEM_TIMES, degrees, milliseconds, when }
 
 /* What the table has of a record: the fields by their numbers, the first that has a value, and else what is accumulated. */
 const RECORD = 20

@@ -46,7 +46,8 @@ from ._read.messages import Message, Position
 from ._read.streams import Stream, blocks, messages
 from ._read.streams import found as _found
 from ._read.streams import rows as _rows
-from ._read.values import Key, Value, degrees
+from ._read.readers import Value
+from ._read.values import Key, degrees
 from ._sources import Readable, Source
 from ._sources import bytes_of as _bytes_of
 from ._times import when

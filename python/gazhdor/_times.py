@@ -18,8 +18,8 @@ SYSTEM_TIMES = 0x10000000  # A time below is the device's own, which didn't know
 
 def when(seconds: Optional[int]) -> Optional[Time]:
     """Returns the time that a field of type date_time stands for, in seconds since 1989-12-31T00:00:00 UTC: an aware
-    datetime in UTC; below 268,435,456 the text 'system+N', as the device didn't know the time. None stands for None, and
-    for what is no time, as a number below 0 or one of the year 10,000."""
+    datetime in UTC; below 268,435,456 the text 'system+N', as the device didn't know the time. None stands for None,
+    and for what is no time, as a number below 0 or one of the year 10,000."""
     if seconds is None or not 0 <= seconds < _MOST:
         return None
     return f"system+{seconds}" if seconds < SYSTEM_TIMES else EPOCH + datetime.timedelta(0, seconds)

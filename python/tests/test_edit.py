@@ -1,6 +1,7 @@
 """Whether files that are edited, joined and made by the examples are what the words ask for: by the values of the files
 that they are made of, by arithmetic, and by gpsbabel, where it is installed."""
 import datetime
+import io
 import os
 import random
 import re
@@ -94,6 +95,24 @@ class Edit(unittest.TestCase):
         *_, m = gazhdor.messages(at("out.fit"))
         self.assertEqual([field.value for field in m.fields], [(None, None), None, None, None])
 
+    def test_places(self):
+        """Places of messages that no profile has, and texts of places, are emptied; angles, and where a rider sits, stay."""
+        place = packed("<2i", 564310981, 102220222)
+        developer = [(UINT8, b"position"), (0x88, b"heading"), (SINT32, b"gain"), (0x89, b"Latitude"), (7, b"gps place")]
+        units = {b"heading": b"deg", b"gain": b"m"}
+        described = [describe(0, k, code, name, units.get(name, b"")) for k, (code, name) in enumerate(developer)]
+        source = fit(DESCRIBE, *described, define(0, 20, [(11, 4, SINT32), (69, 2, UINT8)],
+            [(0, 1, 0), (1, 4, 0), (2, 4, 0), (3, 8, 0), (4, 6, 0)]),
+            b"\0" + packed("<i2BBfid", 9000, 10, 20, 7, 4.5, 5, 47.3) + b"Zurich",
+            define(1, 142, [(3, 4, SINT32), (4, 4, SINT32), (29, 4, 7)]), b"\1" + place + b"name",
+            define(2, 128, [(8, 6, 7), (10, 4, SINT32), (11, 4, 5), (1, 1, 1)]), b"\2" + b"Zurich" + place + b"\x14")
+        into = io.BytesIO()
+        gazhdor.edit(source, into, drop="position")
+        told = [{key: value for key, value in m.items() if value is not None} for m in gazhdor.messages(into.getvalue())
+            if m.number in (20, 128, 142)]
+        self.assertEqual(told, [{"time_from_course": 9.0, 69: (10, 20), "position": 7, "heading": 4.5, "gain": 5},
+            {29: "name"}, {1: 20}])
+
     def test_cut(self):
         """The records of a span stay, and lap, session and activity say what these come to."""
         begin, end = START + 300, START + 600
@@ -170,6 +189,42 @@ class Join(unittest.TestCase):
         self.assertEqual((session["num_laps"], session["total_timer_time"], session["total_elapsed_time"]),
             (2, ran, 86400.0 + laps[1]["total_elapsed_time"]))
         self.assertAlmostEqual(session["total_distance"], 2 * whole, 1)
+
+    def test_again(self):
+        """A ride that is cut in two, and joined, is as long as it was, but for what lies between the parts."""
+        rows = list(gazhdor.table(RIDE))
+        half = START + 360
+        parts = [io.BytesIO(), io.BytesIO(), io.BytesIO()]
+        gazhdor.edit(RIDE, parts[0], end=half - 1)
+        gazhdor.edit(RIDE, parts[1], begin=half)
+        gazhdor.join([part.getvalue() for part in parts[:2]], parts[2], one=True)
+        at = next(k for k, row in enumerate(rows) if (row.timestamp - EPOCH).total_seconds() >= half)
+        (session,) = gazhdor.messages(parts[2].getvalue(), only="session")
+        laps = list(gazhdor.messages(parts[2].getvalue(), only="lap"))
+        lost = rows[at].distance - rows[at - 1].distance
+        self.assertAlmostEqual(session["total_distance"], rows[-1].distance - lost, 2)
+        self.assertAlmostEqual(sum(lap["total_distance"] for lap in laps), session["total_distance"], 2)
+        self.assertEqual([round(row.distance, 2) for row in gazhdor.table(parts[2].getvalue())][at:],
+            [round(row.distance - lost, 2) for row in rows[at:]])
+
+    def test_gap(self):
+        """What lies between two rides isn't ridden, also where the first has no event at its end."""
+        record = define(0, 20, [(253, 4, UINT32), (5, 4, UINT32)])
+        rides = [fit(record, *(packed("<BII", 0, START + begin + k, 750 * k) for k in (0, 100))) for begin in (0, 1000)]
+        into = io.BytesIO()
+        gazhdor.join(rides, into, one=True)
+        (session,) = gazhdor.messages(into.getvalue(), only="session")
+        self.assertEqual((session["total_timer_time"], session["total_elapsed_time"], session["total_distance"],
+            session["avg_speed"]), (200.0, 1100.0, 1500.0, 7.5))
+
+    def test_undescribed(self):
+        """A developer field that a file doesn't describe isn't read as one of the file before it."""
+        record = define(0, 20, [(253, 4, UINT32)], [(1, 1, 0)])
+        first = fit(DESCRIBE, describe(0, 1, UINT8, b"Strain", b"N"), record, packed("<BIB", 0, START, 5))
+        second = fit(record, packed("<BIB", 0, START + 10, 5))
+        with self.assertRaisesRegex(ValueError, "file 2 doesn't describe its developer field dev_0_1"):
+            gazhdor.join([first, second], io.BytesIO(), one=True)
+        gazhdor.join([second, first], io.BytesIO())
 
     def test_numbers(self):
         """Means and maxima, a pause, and what no record has, by arithmetic."""

@@ -1,4 +1,5 @@
-"""What values mean that are written, and what is left where a write fails: the same by each way in which Python has them."""
+"""What values mean that are written, and what is left where a write fails: the same by each way in which Python has
+them."""
 import copy
 import decimal
 import io
@@ -63,8 +64,14 @@ class Values(unittest.TestCase):
             left_out("there is no pandas, so its NA isn't tried")
         self.alike("record", "heart_rate", [pandas.NA, 120, pandas.NaT], [None, 120, None])
         self.assertEqual(column("record", "heart_rate", pandas.array([1, None, 3], "Int64")), [1, None, 3])
-        self.assertEqual(column("record", "timestamp", pandas.Series([pandas.Timestamp(TIME + 631065600, unit="s", tz="UTC"), pandas.NaT])),
-            [TIME, None])
+        self.assertEqual(
+            column(
+                "record",
+                "timestamp",
+                pandas.Series([pandas.Timestamp(TIME + 631065600, unit="s", tz="UTC"), pandas.NaT]),
+            ),
+            [TIME, None],
+        )
 
     @unittest.skipUnless(numpy, "there is no numpy")
     def test_masked(self):
@@ -79,7 +86,8 @@ class Values(unittest.TestCase):
         self.assertEqual(each("record", "heart_rate", [numpy.ma.masked, 7]), [None, 7])
 
     def test_lists_back(self):
-        """columns takes what lists gives, and what write takes: the device's own time, lists of one, arrays of one column."""
+        """columns takes what lists gives, and what write takes: the device's own time, lists of one, arrays of one
+        column."""
         self.alike("record", "timestamp", ["system+5", TIME], [5, TIME])
         self.alike("record", "heart_rate", [[120], (121,), [None], []], [120, 121, None, None])
         self.alike("record", "altitude", [[408.2], (409.0,)], [408.2, 409.0])
@@ -101,14 +109,30 @@ class Values(unittest.TestCase):
     @unittest.skipUnless(numpy, "there is no numpy")
     def test_times_of_numpy(self):
         """A length of time is no time, and a time that no field can have is an error, however it is counted."""
-        for value in (numpy.timedelta64(TIME, "s"), *(numpy.datetime64(*of) for of in ((2**62, "D"), (10**6, "D"), (2**40, "s"), (3000, "Y"),
-                (2**62, "M"), (2**60, "h"), (-5, "D"), (2**63 - 1, "ns")))):
+        for value in (
+            numpy.timedelta64(TIME, "s"),
+            *(
+                numpy.datetime64(*of)
+                for of in (
+                    (2**62, "D"),
+                    (10**6, "D"),
+                    (2**40, "s"),
+                    (3000, "Y"),
+                    (2**62, "M"),
+                    (2**60, "h"),
+                    (-5, "D"),
+                    (2**63 - 1, "ns"),
+                )
+            ),
+        ):
             for way in (column, each):
                 for values in ([value], numpy.array([value])):
                     with self.assertRaises(gazhdor.WrongValue, msg=repr(value)):
                         way("record", "timestamp", values)
         day = numpy.datetime64("2026-05-17", "D")
-        self.alike("record", "timestamp", numpy.array([day, "NaT"], "datetime64[D]"), [(20590 * 86400) - 631065600, None])
+        self.alike(
+            "record", "timestamp", numpy.array([day, "NaT"], "datetime64[D]"), [(20590 * 86400) - 631065600, None]
+        )
 
     def test_floats(self):
         """A whole number becomes the nearest of 32 bits, and is rounded once."""
@@ -224,7 +248,9 @@ class Sinks(unittest.TestCase):
 
     def test_opened_elsewhere(self):
         """What another process has open is written to, and what stood there stays."""
-        program = "import gazhdor, sys\nwith gazhdor.Writer('/dev/stdout') as out:\n    out.write('record', heart_rate=120)"
+        program = (
+            "import gazhdor, sys\nwith gazhdor.Writer('/dev/stdout') as out:\n    out.write('record', heart_rate=120)"
+        )
         with open(self.at("out"), "wb") as file:
             file.write(b"before")
             file.flush()
@@ -248,7 +274,9 @@ class Sinks(unittest.TestCase):
             with gazhdor.Writer(path) as out:
                 out.write("record", heart_rate=120)
             self.restore()
-            self.assertEqual((os.stat(path).st_ino, gazhdor.check(path).good, os.listdir(self.folder)), (inode, True, ["ride.fit"]))
+            self.assertEqual(
+                (os.stat(path).st_ino, gazhdor.check(path).good, os.listdir(self.folder)), (inode, True, ["ride.fit"])
+            )
 
     def refuse(self, name):
         """Has the system say that a file can't be made beside another one, or can't take its place."""

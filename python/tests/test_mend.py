@@ -313,7 +313,7 @@ class Anonymise(unittest.TestCase):
             [("record", {"timestamp": 10**9, "heart_rate": 120}), ("session", {"sport": 2, "total_distance": 8558.46}),
                 (None, {10: -7})])
         self.assertEqual(done.stdout.count("emptied: "), 13)
-        self.assertIn("emptied: session field_29, 1 times\n", done.stdout)
+        self.assertIn("emptied: session nec_lat, 1 times\n", done.stdout)
         # it doesn't write over a file
         self.assertNotEqual(run(*words).returncode, 0)
 

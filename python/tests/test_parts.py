@@ -1,5 +1,6 @@
-"""Whether the parts of recordings, joined again, come to what the whole did, and each says of itself what its records say: by the sums of what
-is read of the whole, of activities that are made here, of recordings of each kind and of the known files."""
+"""Whether the parts of recordings, joined again, come to what the whole did, and each says of itself what its records
+say: by the sums of what is read of the whole, of activities that are made here, of recordings of each kind and of the
+known files."""
 import bisect
 import collections
 import concurrent.futures
@@ -31,8 +32,14 @@ class Made:
             sessions = [self.session(number) for number in range(r.choice((1, 1, 2)))]
             for values in sessions:
                 self.out.write("session", values)
-            self.out.write("activity", timestamp=self.time, num_sessions=len(sessions), type=0,
-                total_timer_time=sum(values["total_timer_time"] for values in sessions), local_timestamp=self.time + 7200)
+            self.out.write(
+                "activity",
+                timestamp=self.time,
+                num_sessions=len(sessions),
+                type=0,
+                total_timer_time=sum(values["total_timer_time"] for values in sessions),
+                local_timestamp=self.time + 7200,
+            )
         self.data = sink.getvalue()
 
     def session(self, number):
@@ -45,10 +52,18 @@ class Made:
             self.laps.append(self.lap(sport))
         self.out.write("event", timestamp=self.time, event=0, event_type=4)
         laps = self.laps[first:]
-        told = {"timestamp": self.time, "start_time": begin, "sport": sport, "sub_sport": number, "message_index": number,
-            "total_elapsed_time": self.time - begin, "total_distance": (self.distance - distance) / 100,
-            "first_lap_index": first, "num_laps": len(laps),
-            **{name: sum(lap[name] for lap in laps) for name in ("total_timer_time", "total_calories")}}
+        told = {
+            "timestamp": self.time,
+            "start_time": begin,
+            "sport": sport,
+            "sub_sport": number,
+            "message_index": number,
+            "total_elapsed_time": self.time - begin,
+            "total_distance": (self.distance - distance) / 100,
+            "first_lap_index": first,
+            "num_laps": len(laps),
+            **{name: sum(lap[name] for lap in laps) for name in ("total_timer_time", "total_calories")},
+        }
         self.time += r.choice((0, 1, 40))
         return told
 
@@ -69,14 +84,24 @@ class Made:
             if r.random() < 0.8:
                 beats = [r.randrange(300, 1200) / 1000 for _ in range(r.randrange(1, 6))]
                 self.out.write("hrv", time=beats + [None] * (5 - len(beats)))
-        told = {"message_index": len(self.laps), "timestamp": self.time, "start_time": begin, "sport": sport,
-            "total_elapsed_time": self.time - begin, "total_timer_time": max(ran, 0), "total_calories": r.randrange(200),
-            "total_distance": (self.distance - distance) / 100, "total_ascent": r.randrange(50)}
+        told = {
+            "message_index": len(self.laps),
+            "timestamp": self.time,
+            "start_time": begin,
+            "sport": sport,
+            "total_elapsed_time": self.time - begin,
+            "total_timer_time": max(ran, 0),
+            "total_calories": r.randrange(200),
+            "total_distance": (self.distance - distance) / 100,
+            "total_ascent": r.randrange(50),
+        }
         self.out.write("lap", told)
         return told
 
     def record(self):
-        self.out.write("record", timestamp=self.time, heart_rate=self.r.randrange(60, 200), distance=self.distance / 100)
+        self.out.write(
+            "record", timestamp=self.time, heart_rate=self.r.randrange(60, 200), distance=self.distance / 100
+        )
 
 
 def part(data, begin, end):
@@ -121,7 +146,10 @@ def told(records):
 def timed(records):
     """What records with a time say, in the order of their times; a time in a header may have become a timestamp."""
     found = [m for m in records if m.seconds is not None]
-    return sorted((m.seconds, repr({key: value for key, value in m.items() if key not in ("distance", "timestamp")})) for m in found)
+    return sorted(
+        (m.seconds, repr({key: value for key, value in m.items() if key not in ("distance", "timestamp")}))
+        for m in found
+    )
 
 
 def ran(data):
@@ -158,13 +186,22 @@ class Parts(unittest.TestCase):
             self.assertTrue(not times or (begin is None or min(times) >= begin) and (end is None or max(times) <= end))
         records, laps, sessions = (of(data, name) for name in ("record", "lap", "session"))
         (activity,) = of(data, "activity")
-        self.assertEqual((activity["num_sessions"], activity["total_timer_time"]), (len(sessions),
-            sum(session["total_timer_time"] for session in sessions)))
-        self.assertEqual(sum(session["total_timer_time"] for session in sessions),
-            sum(lap["total_timer_time"] for lap in laps))
+        self.assertEqual(
+            (activity["num_sessions"], activity["total_timer_time"]),
+            (len(sessions), sum(session["total_timer_time"] for session in sessions)),
+        )
+        self.assertEqual(
+            sum(session["total_timer_time"] for session in sessions), sum(lap["total_timer_time"] for lap in laps)
+        )
         indices = [lap["message_index"] for lap in laps]
-        self.assertEqual(indices, [index for session in sessions for index in range(session["first_lap_index"],
-            session["first_lap_index"] + session["num_laps"])])
+        self.assertEqual(
+            indices,
+            [
+                index
+                for session in sessions
+                for index in range(session["first_lap_index"], session["first_lap_index"] + session["num_laps"])
+            ],
+        )
         if begin is not None:
             self.assertEqual(records[0]["distance"], 0)
         for whole in (*laps, *sessions):
@@ -173,11 +210,12 @@ class Parts(unittest.TestCase):
             self.assertEqual(whole["total_elapsed_time"], whole["timestamp"] - whole["start_time"])
             if "max_heart_rate" in whole:
                 rates = [m["heart_rate"] for m in inside]
-                self.assertEqual((whole["max_heart_rate"], whole["avg_heart_rate"]), (max(rates),
-                    int(sum(rates) / len(rates) + 0.5)))
+                self.assertEqual(
+                    (whole["max_heart_rate"], whole["avg_heart_rate"]), (max(rates), int(sum(rates) / len(rates) + 0.5))
+                )
 
     def test_activities(self):
-        """300 activities: what is lost is only what lies between the last record of a part and the first of the next one."""
+        """300 activities: what is lost lies between the last record of a part and the first of the next one."""
         with concurrent.futures.ProcessPoolExecutor() as pool:
             self.assertEqual(sum(pool.map(see_activity, range(300), chunksize=10)), 300)
 
@@ -207,15 +245,21 @@ class Parts(unittest.TestCase):
         self.assertEqual(session["total_timer_time"], sum(of["total_timer_time"] for of in sessions) - lost)
         if all(of["total_elapsed_time"] > 1 for of in sessions):
             self.assertEqual(session["total_calories"], sum(of["total_calories"] for of in sessions))
-        self.assertEqual((session["num_laps"], [lap["message_index"] for lap in laps]), (len(laps), list(range(len(laps)))))
+        self.assertEqual(
+            (session["num_laps"], [lap["message_index"] for lap in laps]), (len(laps), list(range(len(laps))))
+        )
 
     def see_laps(self, data, parts):
-        """That whole laps and sessions stay as they are, with the sport of each, and that what is cut has its share of the calories."""
+        """That whole laps and sessions stay as they are, with the sport of each, and that what is cut has its share of
+        the calories."""
         shares = {}
         for (begin, end), piece in parts:
             for name in ("lap", "session"):
-                inside = [dict(m) for m in of(data, name) if (begin is None or m["start_time"] >= begin)
-                    and (end is None or m["timestamp"] <= end)]
+                inside = [
+                    dict(m)
+                    for m in of(data, name)
+                    if (begin is None or m["start_time"] >= begin) and (end is None or m["timestamp"] <= end)
+                ]
                 found = [dict(m) for m in of(piece, name)]
                 for whole in inside:
                     self.assertIn(whole, found)
@@ -226,10 +270,16 @@ class Parts(unittest.TestCase):
             sports = {m["sport"] for m in of(piece, "session")}
             self.assertLessEqual({m["sport"] for m in of(piece, "sport")}, sports)
         # of one that has a second alone, each part may have but one end
-        whole = {(name, m["message_index"]): m["total_calories"] for name in ("lap", "session") for m in of(data, name)
-            if m["total_elapsed_time"] > 1}
-        self.assertEqual({key: share for key, share in shares.items() if key in whole},
-            {key: calories for key, calories in whole.items() if key in shares})
+        whole = {
+            (name, m["message_index"]): m["total_calories"]
+            for name in ("lap", "session")
+            for m in of(data, name)
+            if m["total_elapsed_time"] > 1
+        }
+        self.assertEqual(
+            {key: share for key, share in shares.items() if key in whole},
+            {key: calories for key, calories in whole.items() if key in shares},
+        )
 
     def test_recordings(self):
         """Recordings of each kind, the ride and the known files: records and beats are those of the whole."""
@@ -242,7 +292,9 @@ class Parts(unittest.TestCase):
             for span, piece in parts:
                 for m in of(piece, "record"):
                     if m.seconds is not None:
-                        self.assertTrue((span[0] is None or m.seconds >= span[0]) and (span[1] is None or m.seconds <= span[1]))
+                        self.assertTrue(
+                            (span[0] is None or m.seconds >= span[0]) and (span[1] is None or m.seconds <= span[1])
+                        )
             found = [m for _, piece in parts for m in of(piece, "record")]
             self.assertEqual(timed(found), timed(of(data, "record")) if parts else [], name)
 

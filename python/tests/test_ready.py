@@ -1,4 +1,5 @@
-"""Values that are ready to use, fields that are added, and whole activities in one call: by arithmetic, and by what databases and JSON take."""
+"""Values that are ready to use, fields that are added, and whole activities in one call: by arithmetic, and by what
+databases and JSON take."""
 import datetime
 import io
 import json
@@ -33,12 +34,36 @@ def sources():
 class Ready(unittest.TestCase):
     def test_message(self):
         """Each value is of a type that a database has."""
-        session = one((253, UINT32, packed("<I", TIME)), (2, UINT32, packed("<I", TIME)), (3, 0x85, packed("<i", 2**29)), (5, 0, b"\2"),
-            (6, 0, b"\xc8"), (9, UINT32, packed("<I", 12345)), (200, BYTE, b"\1\xfe"), (201, UINT16, packed("<3H", 1, 65535, 3)),
-            (110, STRING, b"Road\0\0"), (202, FLOAT32, packed("<f", float("inf"))), number=18)
-        self.assertEqual(session.ready(), {"timestamp": START, "start_time": START, "start_position_lat": 45.0, "sport": "cycling",
-            "sub_sport": "200", "total_distance": 123.45, "field_200": "0x01FE", "field_201_0": 1, "field_201_1": None, "field_201_2": 3,
-            "field_110": "Road", "field_202": None})
+        session = one(
+            (253, UINT32, packed("<I", TIME)),
+            (2, UINT32, packed("<I", TIME)),
+            (3, 0x85, packed("<i", 2**29)),
+            (5, 0, b"\2"),
+            (6, 0, b"\xc8"),
+            (9, UINT32, packed("<I", 12345)),
+            (200, BYTE, b"\1\xfe"),
+            (201, UINT16, packed("<3H", 1, 65535, 3)),
+            (110, STRING, b"Road\0\0"),
+            (202, FLOAT32, packed("<f", float("inf"))),
+            number=18,
+        )
+        self.assertEqual(
+            session.ready(),
+            {
+                "timestamp": START,
+                "start_time": START,
+                "start_position_lat": 45.0,
+                "sport": "cycling",
+                "sub_sport": "200",
+                "total_distance": 123.45,
+                "field_200": "0x01FE",
+                "field_201_0": 1,
+                "field_201_1": None,
+                "field_201_2": 3,
+                "field_110": "Road",
+                "field_202": None,
+            },
+        )
         unknown = one((253, UINT32, packed("<I", 77)), (3, UINT8, b"\x05"))
         self.assertEqual(unknown.ready(), {"timestamp": None, "heart_rate": 5})
 
@@ -59,11 +84,23 @@ class Ready(unittest.TestCase):
                 for column in columns.values():
                     types = {type(value) for value in column} - {type(None)}
                     self.assertLessEqual(len(types - {int, float}), 1)
-                    self.assertTrue(types <= {int, float, str, datetime.datetime} and not (types & {int, float} and types & {str}), types)
+                    self.assertTrue(
+                        types <= {int, float, str, datetime.datetime} and not (types & {int, float} and types & {str}),
+                        types,
+                    )
                 if not columns or len(columns) > 900:
                     continue
-                told = [tuple(min(max(value, -(2**63)), 2**63 - 1) if isinstance(value, int) else str(value) if isinstance(value, datetime.datetime)
-                    else value for value in row) for row in rows]
+                told = [
+                    tuple(
+                        min(max(value, -(2**63)), 2**63 - 1)
+                        if isinstance(value, int)
+                        else str(value)
+                        if isinstance(value, datetime.datetime)
+                        else value
+                        for value in row
+                    )
+                    for row in rows
+                ]
                 base.execute(f"create table t{number}_{name} ({', '.join(f'c{k}' for k in range(len(columns)))})")
                 base.executemany(f"insert into t{number}_{name} values ({', '.join('?' * len(columns))})", told)
 
@@ -75,7 +112,10 @@ class Ready(unittest.TestCase):
         for number, source in enumerate(sources()):
             for name in {message.number for message in gazhdor.messages(source)}:
                 frame = gazhdor.frame(source, name, ready=True)
-                self.assertLessEqual({str(kind) for kind in frame.dtypes}, {"float64", "datetime64[ns, UTC]", "datetime64[ns]", "object", "category"})
+                self.assertLessEqual(
+                    {str(kind) for kind in frame.dtypes},
+                    {"float64", "datetime64[ns, UTC]", "datetime64[ns]", "object", "category"},
+                )
                 for label in frame:
                     if frame[label].dtype == object:
                         self.assertLessEqual({type(value) for value in frame[label]}, {str, type(None)})
@@ -84,10 +124,25 @@ class Ready(unittest.TestCase):
 
     def test_as_in_the_table(self):
         """.speed, .altitude and .distance are as in the table, whichever field tells them."""
-        fields = [(253, 4, UINT32), (2, 2, UINT16), (78, 4, UINT32), (6, 2, UINT16), (73, 4, UINT32), (5, 4, UINT32), (8, 3, BYTE)]
-        rows = ((2500, 3000, 7000, 8000, 100, b"\x64\x00\x10"), (2500, 2**32 - 1, 7000, 2**32 - 1, 2**32 - 1, b"\x64\x00\x20"),
-            (65535, 3100, 65535, 2**32 - 1, 300, b"\x64\x00\x30"), (65535, 2**32 - 1, 65535, 8000, 2**32 - 1, b"\xff\xff\xff"))
-        source = fit(define(0, 20, fields), *(b"\0" + packed("<IHIHII", TIME + k, *row[:5]) + row[5] for k, row in enumerate(rows)))
+        fields = [
+            (253, 4, UINT32),
+            (2, 2, UINT16),
+            (78, 4, UINT32),
+            (6, 2, UINT16),
+            (73, 4, UINT32),
+            (5, 4, UINT32),
+            (8, 3, BYTE),
+        ]
+        rows = (
+            (2500, 3000, 7000, 8000, 100, b"\x64\x00\x10"),
+            (2500, 2**32 - 1, 7000, 2**32 - 1, 2**32 - 1, b"\x64\x00\x20"),
+            (65535, 3100, 65535, 2**32 - 1, 300, b"\x64\x00\x30"),
+            (65535, 2**32 - 1, 65535, 8000, 2**32 - 1, b"\xff\xff\xff"),
+        )
+        source = fit(
+            define(0, 20, fields),
+            *(b"\0" + packed("<IHIHII", TIME + k, *row[:5]) + row[5] for k, row in enumerate(rows)),
+        )
         wanted = [(row.speed, row.altitude, row.distance) for row in gazhdor.table(source)]
         self.assertEqual([of[0] for of in wanted], [8.0, 7.0, 1.0, 8.0])
         keys = [".speed", ".altitude", ".distance"]
@@ -95,7 +150,10 @@ class Ready(unittest.TestCase):
         self.assertEqual([(m.speed, m.altitude, m.distance) for m in gazhdor.messages(source)], wanted)
         if pandas is None:
             left_out("there is no numpy, so no array is tried")
-        arrays = [[None if value != value else value for value in column.tolist()] for column in gazhdor.columns(source, "record", keys).values()]
+        arrays = [
+            [None if value != value else value for value in column.tolist()]
+            for column in gazhdor.columns(source, "record", keys).values()
+        ]
         self.assertEqual(list(zip(*arrays)), wanted)
 
     def test_lines(self):
@@ -110,16 +168,24 @@ class Adding(unittest.TestCase):
     def test_added(self):
         """A message gets fields which it hasn't, keeps the others, and is copied with them."""
         before = DESCRIBE, describe(0, 0, UINT8, b"Form power", b"W")
-        source = fit(*before, define(1, 20, [(253, 4, UINT32), (8, 3, BYTE), (3, 1, UINT8)], [(0, 1, 0)], big=True),
-            b"\1" + TIME.to_bytes(4, "big") + b"\x64\x00\x10\x78\x07")
+        source = fit(
+            *before,
+            define(1, 20, [(253, 4, UINT32), (8, 3, BYTE), (3, 1, UINT8)], [(0, 1, 0)], big=True),
+            b"\1" + TIME.to_bytes(4, "big") + b"\x64\x00\x10\x78\x07",
+        )
         *_, old = gazhdor.messages(source)
         new = old.adding(power=250, altitude=408.2, heart_rate=121)
         self.assertEqual({**dict(old), "power": 250, "altitude": 408.2, "heart_rate": 121}, dict(new))
-        self.assertEqual((new.seconds, new.place, new.distance, new.unit("Form power"), old["heart_rate"]), (TIME, old.place, 16.0, "W", 120))
+        self.assertEqual(
+            (new.seconds, new.place, new.distance, new.unit("Form power"), old["heart_rate"]),
+            (TIME, old.place, 16.0, "W", 120),
+        )
         sink = io.BytesIO()
         with gazhdor.Writer(sink) as out:
             for event in gazhdor.messages(source, everything=True):
-                out.copy(event.adding(power=250) if isinstance(event, gazhdor.Message) and event.name == "record" else event)
+                out.copy(
+                    event.adding(power=250) if isinstance(event, gazhdor.Message) and event.name == "record" else event
+                )
         *_, copied = gazhdor.messages(sink.getvalue())
         self.assertEqual(dict(copied), {**dict(old), "power": 250})
         self.assertEqual(old.adding({3: 5}), old.replace(heart_rate=5))
@@ -139,24 +205,47 @@ class Adding(unittest.TestCase):
 class Whole(unittest.TestCase):
     def test_activity(self):
         """An activity of samples has what other programs ask for, and what its records come to."""
-        columns = {"timestamp": [TIME + k for k in range(100)], "heart_rate": [120 + k % 3 for k in range(100)],
-            "distance": [2.5 * k for k in range(100)], "position_lat": [47.3] * 100, "position_long": [8.5] * 100}
+        columns = {
+            "timestamp": [TIME + k for k in range(100)],
+            "heart_rate": [120 + k % 3 for k in range(100)],
+            "distance": [2.5 * k for k in range(100)],
+            "position_lat": [47.3] * 100,
+            "position_long": [8.5] * 100,
+        }
         sink = io.BytesIO()
         data = gazhdor.activity(columns, sport="cycling", sink=sink)
         self.assertEqual((sink.getvalue(), gazhdor.check(data).files), (data, 1))
         names = [message.name for message in gazhdor.messages(data)]
-        self.assertEqual([name for name in names if name != "record"], ["file_id", "event", "event", "lap", "session", "activity"])
+        self.assertEqual(
+            [name for name in names if name != "record"], ["file_id", "event", "event", "lap", "session", "activity"]
+        )
         (session,) = gazhdor.messages(data, only="session", ready=True)
-        self.assertEqual((session["sport"], session["total_timer_time"], session["total_distance"], session["avg_speed"], session["max_heart_rate"],
-            session["num_laps"]), ("cycling", 99.0, 247.5, 2.5, 122, 1))
-        self.assertEqual(gazhdor.lists(data, "record", list(columns)[1:3]), {key: columns[key] for key in list(columns)[1:3]})
+        self.assertEqual(
+            (
+                session["sport"],
+                session["total_timer_time"],
+                session["total_distance"],
+                session["avg_speed"],
+                session["max_heart_rate"],
+                session["num_laps"],
+            ),
+            ("cycling", 99.0, 247.5, 2.5, 122, 1),
+        )
+        self.assertEqual(
+            gazhdor.lists(data, "record", list(columns)[1:3]), {key: columns[key] for key in list(columns)[1:3]}
+        )
         for wrong in ({}, {"heart_rate": [5]}, {"timestamp": []}):
             with self.assertRaises(ValueError):
                 gazhdor.activity(wrong)
         with self.assertRaises(gazhdor.WrongValue):
             gazhdor.activity({"timestamp": [TIME], "heart_rate": [300]})
         if pandas is not None:
-            frame = pandas.DataFrame({**columns, "timestamp": pandas.to_datetime([TIME + 631065600 + k for k in range(100)], unit="s", utc=True)})
+            frame = pandas.DataFrame(
+                {
+                    **columns,
+                    "timestamp": pandas.to_datetime([TIME + 631065600 + k for k in range(100)], unit="s", utc=True),
+                }
+            )
             self.assertEqual(gazhdor.activity(frame, sport=2), data)
 
     def test_mend(self):
@@ -167,18 +256,27 @@ class Whole(unittest.TestCase):
         cut = data[: len(data) // 2]
         records = list(gazhdor.messages(gazhdor.mend(cut), only="record"))
         made = gazhdor.mend(cut, whole=True)
-        (lap,), (session,), (activity,) = (list(gazhdor.messages(made, only=name)) for name in ("lap", "session", "activity"))
+        (lap,), (session,), (activity,) = (
+            list(gazhdor.messages(made, only=name)) for name in ("lap", "session", "activity")
+        )
         self.assertEqual(list(gazhdor.messages(made, only="record")), records)
         lasts = float(len(records) - 1)
-        self.assertEqual((lap["total_timer_time"], session["total_distance"], activity["total_timer_time"]), (lasts, 3 * lasts, lasts))
+        self.assertEqual(
+            (lap["total_timer_time"], session["total_distance"], activity["total_timer_time"]),
+            (lasts, 3 * lasts, lasts),
+        )
 
     def test_edit(self):
         """The words of the command line, as a call."""
         into = io.BytesIO()
         later = datetime.timedelta(minutes=5)
-        counts = gazhdor.edit(RIDE, into, drop="position", shift=later, begin=START + later, end="2026-05-17T09:40:00+02:00")
+        counts = gazhdor.edit(
+            RIDE, into, drop="position", shift=later, begin=START + later, end="2026-05-17T09:40:00+02:00"
+        )
         rows = list(gazhdor.table(into.getvalue()))
-        self.assertEqual((rows[0].timestamp, rows[-1].timestamp, rows[0].position_lat), (START + 2 * later, START + 3 * later, None))
+        self.assertEqual(
+            (rows[0].timestamp, rows[-1].timestamp, rows[0].position_lat), (START + 2 * later, START + 3 * later, None)
+        )
         self.assertEqual(counts["record", "position_lat"], len(rows))
         with self.assertRaisesRegex(ValueError, "zone"):
             gazhdor.edit(RIDE, into, begin=START.replace(tzinfo=None))
@@ -195,13 +293,17 @@ class Whole(unittest.TestCase):
             out.write("event", timestamp=TIME + 400, event=0, event_type=0)
 
         text = gazhdor.gpx(2 * written(ride))
-        self.assertEqual((text.count("<trk>"), text.count("<trkseg>"), text.count("</trkseg>"), text.count("<trkpt")), (2, 6, 6, 18))
+        self.assertEqual(
+            (text.count("<trk>"), text.count("<trkseg>"), text.count("</trkseg>"), text.count("<trkpt")), (2, 6, 6, 18)
+        )
         self.assertEqual(text.count("<pwr:PowerInWatts>201</pwr:PowerInWatts>"), 6)
         self.assertNotIn("<trkseg>\n</trkseg>", text)
 
     def test_names(self):
         """Nothing private is among the names of the module."""
-        self.assertEqual({name for name in dir(gazhdor) if not name.startswith("__")}, {*gazhdor.__all__, "errors"} - {"__version__"})
+        self.assertEqual(
+            {name for name in dir(gazhdor) if not name.startswith("__")}, {*gazhdor.__all__, "errors"} - {"__version__"}
+        )
 
 
 if __name__ == "__main__":

@@ -42,6 +42,14 @@ def use(upload: BinaryIO, opened: io.BufferedReader) -> None:
         count: int = error.count
     except gazhdor.FitError as fault:
         place: Optional[int] = fault.place
+    counts: Dict[Tuple[str, str], int] = gazhdor.edit(
+        "a", upload, drop=["position"], shift=5, begin=7, end="2026-05-17T07:30:00Z")
+    gazhdor.join(["a", b"b"], pathlib.Path("c"), one=True)
+    made: bytes = gazhdor.activity({"timestamp": [1, 2]}, sport="cycling") + gazhdor.mend("a", whole=True)
+    for values in gazhdor.messages("a", ready=True):
+        ready: Dict[str, Any] = values
+    more: gazhdor.Message = message.adding({3: 5}, power=7)
+    line: str = more.to_json()
     again: bytes = gazhdor.from_blocks(gazhdor.blocks(opened))
     with gazhdor.Writer(upload, names={140: "physiology"}) as out:
         dev: gazhdor.DeveloperField = out.describe("Form power", "watts", "uint16", native=("record", 7))
@@ -73,6 +81,9 @@ WRONG = (
     "gazhdor.messages('a', only='lap', everything=True)",
     "gazhdor.Writer('a').copy(5)",
     "gazhdor.Writer(io.StringIO())",
+    "gazhdor.edit('a', 'b', position=1)",
+    "gazhdor.join('a')",
+    "gazhdor.messages('a', everything=True, ready=True)",
     "gazhdor.Stream('rows')",
     "gazhdor.Stream('show', only=20)",
     "gazhdor.Stream('table').feed('a')",

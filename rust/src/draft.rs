@@ -222,9 +222,12 @@ impl<'a> Draft<'a> {
     pub(crate) fn fill(&mut self, message: &Message<'_>) {
         let block = message.block();
         self.block[AT_MESSAGE_BITS] = block[AT_MESSAGE_BITS] & (TOLD_TIME | TOLD_HEADER_TIME);
-        self.block[AT_MESSAGE_OFFSET..AT_MESSAGE_DEFINITION].copy_from_slice(&block[AT_MESSAGE_OFFSET..AT_MESSAGE_DEFINITION]);
-        self.block[AT_MESSAGE_HEADER_TIME..AT_MESSAGE_ITEMS].copy_from_slice(&block[AT_MESSAGE_HEADER_TIME..AT_MESSAGE_ITEMS]);
-        let key = |field: &Field<'_>| (field.developer(), field.number(), field.base_type(), field.width() * field.count());
+        self.block[AT_MESSAGE_OFFSET..AT_MESSAGE_DEFINITION]
+            .copy_from_slice(&block[AT_MESSAGE_OFFSET..AT_MESSAGE_DEFINITION]);
+        self.block[AT_MESSAGE_HEADER_TIME..AT_MESSAGE_ITEMS]
+            .copy_from_slice(&block[AT_MESSAGE_HEADER_TIME..AT_MESSAGE_ITEMS]);
+        let key =
+            |field: &Field<'_>| (field.developer(), field.number(), field.base_type(), field.width() * field.count());
         for field in Entries::new(self.definition).map(|entry| Field::new(entry, &[], &[])) {
             let old = message.fields().find(|old| key(old) == key(&field)).map(|old| old.bytes());
             let items = self.block.get_mut(field.begins()..field.begins() + field.width() * field.count());

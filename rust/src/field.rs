@@ -101,7 +101,11 @@ impl<'a> Field<'a> {
 
     /// Its value, where it is one number.
     pub(crate) fn lone(&self) -> Option<f64> {
-        if self.is_lone_number() { self.value(0) } else { None }
+        if self.is_lone_number() {
+            self.value(0)
+        } else {
+            None
+        }
     }
 
     /// The field by what these names say of it, in a message of this number.

@@ -266,39 +266,6 @@ impl<'a> Message<'a> {
         self.fields().find(|field| field.developer() == Some(index) && field.number() == number)
     }
 
-    /// Where the first field of this name stands in the messages of its definition: what is looked up once, for [`at`](Message::at).
-    #[must_use]
-    pub fn look_up(&self, name: &str) -> Option<Place<'a>> {
-        self.field(name).map(|field| Place { field })
-    }
-
-    /// The field at a place; none where the message is of another definition than that where the place was looked up. Then it is looked up
-    /// again:
-    ///
-    /// ```
-    /// # std::env::set_current_dir(env!("GAZHDOR_RIDES")).unwrap();
-    /// # let ride = std::fs::read("ride.fit").unwrap();
-    /// let messages = gazhdor::messages(&ride).unwrap();
-    /// let (mut altitude, mut sum) = (None, 0.0);
-    /// for record in messages.iter().filter(|message| message.number() == 20) {
-    ///     if !altitude.map_or(false, |place| record.has(place)) {
-    ///         altitude = record.look_up("altitude");
-    ///     }
-    ///     sum += altitude.and_then(|place| record.at(place)?.value(0)).unwrap_or(0.0);
-    /// }
-    /// assert_eq!(sum.round(), 60250.0);
-    /// ```
-    #[must_use]
-    pub fn at(&self, place: Place<'a>) -> Option<Field<'a>> {
-        self.has(place).then(|| place.field.of(self.block))
-    }
-
-    /// Whether a place is one of the definition of this message.
-    #[must_use]
-    pub fn has(&self, place: Place<'_>) -> bool {
-        std::ptr::eq(place.field.definition().as_ptr(), self.definition.as_ptr())
-    }
-
     /// The values by their labels, each of a type that databases and JSON have: times, places in degrees, words, several numbers as `name_0`,
     /// `name_1` and so on, bytes as text.
     #[must_use]
@@ -372,12 +339,6 @@ impl Debug for Message<'_> {
         all.field("name", &self.name()).field("number", &self.number()).field("file", &self.file());
         all.field("place", &self.place()).field("time", &self.time()).field("fields", &self.fields()).finish()
     }
-}
-
-/// Where a field stands in the messages of a definition, which [`Message::look_up`] has looked up.
-#[derive(Debug, Clone, Copy)]
-pub struct Place<'a> {
-    field: Field<'a>,
 }
 
 /// Goes through the fields of a [`Message`].

@@ -53,7 +53,11 @@ pub(crate) fn of(message: &Message<'_>) -> Vec<(String, Ready)> {
 }
 
 fn of_time(time: Time) -> Ready {
-    if time.unix().is_some() { Ready::Time(time) } else { Ready::None }
+    if time.unix().is_some() {
+        Ready::Time(time)
+    } else {
+        Ready::None
+    }
 }
 
 fn one(field: &Field<'_>, value: Value<'_>) -> Ready {

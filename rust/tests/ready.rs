@@ -1,12 +1,13 @@
 //! Values that are ready to use, places that are looked up once, fields that are added, and what a record says as the table has it.
 use gazhdor::{BaseType, Definition, Ready, Time, Value, Writer};
 
-
 const TIME: u32 = 1_147_937_400;
 
 #[test]
 fn ready() {
-    let session = Definition::of("session", &["timestamp", "start_time", "start_position_lat", "sport", "total_distance"]).unwrap();
+    let session =
+        Definition::of("session", &["timestamp", "start_time", "start_position_lat", "sport", "total_distance"])
+            .unwrap();
     let session = session.with_field(200, BaseType::Byte, 2).unwrap().with_field(201, BaseType::Uint16, 3).unwrap();
     let mut draft = session.message();
     for (key, number) in [("timestamp", TIME), ("start_time", TIME), ("start_position_lat", 1 << 29), ("sport", 2)] {
@@ -37,7 +38,8 @@ fn ready() {
 
 #[test]
 fn as_the_table_has_it() {
-    let record = Definition::of("record", &["timestamp", "altitude", "enhanced_altitude", "speed", "enhanced_speed"]).unwrap();
+    let record =
+        Definition::of("record", &["timestamp", "altitude", "enhanced_altitude", "speed", "enhanced_speed"]).unwrap();
     let mut writer = Writer::new(Vec::new());
     for (altitude, enhanced, speed, more) in [(1.0, Some(2.0), 3.0, Some(4.0)), (1.0, None, 3.0, None)] {
         let draft = record.message().with("timestamp", TIME).unwrap().with("altitude", altitude).unwrap();
@@ -46,7 +48,8 @@ fn as_the_table_has_it() {
     }
     let file = writer.finish().unwrap();
     let messages = gazhdor::messages(&file).unwrap();
-    let found: Vec<_> = messages.iter().map(|message| (message.altitude(), message.speed(), message.distance())).collect();
+    let found: Vec<_> =
+        messages.iter().map(|message| (message.altitude(), message.speed(), message.distance())).collect();
     assert_eq!(found, [(Some(2.0), Some(4.0), None), (Some(1.0), Some(3.0), None)]);
 }
 

@@ -95,12 +95,8 @@ fn scaled_numbers() {
     assert_eq!(raw("speed", 16.009), Ok(Raw::Unsigned(16009)));
     assert_eq!(raw("distance", 0.125), Ok(Raw::Unsigned(13))); // 12.5: the one that is farther from 0
     assert_eq!(raw("vertical_speed", -0.0625), Ok(Raw::Signed(-63))); // -62.5
-    for (key, value) in [
-        ("altitude", -500.1),
-        ("altitude", 12606.95),
-        ("distance", -0.005),
-        ("vertical_speed", 32.767),
-    ] {
+    for (key, value) in [("altitude", -500.1), ("altitude", 12606.95), ("distance", -0.005), ("vertical_speed", 32.767)]
+    {
         assert!(matches!(raw(key, value), Err(Unfit::Range { .. })), "{value}");
     }
     let fault = raw("altitude", 20000.0).unwrap_err();
@@ -167,9 +163,7 @@ fn texts_and_bytes() {
     for value in [Value::Text("a\0b"), Value::Unsigned(7), Value::Float(1.5), Value::Several] {
         assert!(matches!(bytes(0, value), Err(Unfit::Kind { .. })), "{value:?}");
     }
-    for value in
-        [Value::Bytes(&[1, 2]), Value::Bytes(&[1; 4]), Value::Text("abc"), Value::Unsigned(7)]
-    {
+    for value in [Value::Bytes(&[1, 2]), Value::Bytes(&[1; 4]), Value::Text("abc"), Value::Unsigned(7)] {
         assert!(bytes(1, value).is_err(), "{value:?}");
     }
     let long = "\u{e4}".repeat(1000);

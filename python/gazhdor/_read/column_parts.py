@@ -12,11 +12,13 @@ from ..errors import FitError, TooManyCells
 from .blocks import Walk
 from .cells import ATTRIBUTES, DATE, DEGREES, LOCAL, TIME, WORDS, Asked, Cell, cell_of, own_keys
 from .streams import each
-from .values import Definition, Entry, Key, as_value, degrees
+from .readers import as_value
+from .values import Definition, Entry, Key, degrees
 
 _BATCH = 1 << 18  # At least that many bytes of blocks are taken at once.
 _FEW_CELLS, _MOST_EMPTY = 1 << 22, 16
 _FEW_DEFINITIONS = 16
+
 
 class Part:
     """Some messages of one definition: their blocks, how many messages come before each run of them, and how many are

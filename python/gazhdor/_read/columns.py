@@ -26,9 +26,7 @@ def _needed(name: str) -> Any:
         raise ModuleNotFoundError(what, name=error.name) from None
 
 
-def _asked(
-    message: Kind, fields: Optional[Iterable[Key]], times: bool, names: Told, words: bool, ready: bool
-) -> Asked:
+def _asked(message: Kind, fields: Optional[Iterable[Key]], times: bool, names: Told, words: bool, ready: bool) -> Asked:
     if isinstance(fields, (str, int)):
         raise TypeError("the fields are a list of names, and not one name")
     keys = None if fields is None else list(fields)
@@ -78,7 +76,9 @@ def lists(
     found = {key: _list(table, table.pieces(key)) for key in table.keys}
     if not ready:
         return found
-    return {name: values for name, values in spread({label(key): values for key, values in found.items()}).items()}
+    made: dict[Key, list[Any]] = {}
+    made.update(spread({label(key): values for key, values in found.items()}).items())
+    return made
 
 
 # ---- arrays

@@ -1,7 +1,8 @@
 """A field of a message, as it is when it is asked for."""
 from typing import Any, Optional
 
-from .values import Definition, Entry, Exact, Raw, Value, label, read_exact, read_raw
+from .readers import Exact, Raw, Value, read_exact, read_raw
+from .values import Definition, Entry, label
 from .words import word_of
 
 

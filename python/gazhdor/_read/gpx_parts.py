@@ -115,9 +115,9 @@ def parts(source: Source, partial: bool = False) -> Iterator[str]:
 
 
 def gpx(source: Source, partial: bool = False) -> str:
-    """Returns the track of the record messages as GPX 1.1: a track for each file, a segment for each stretch from a start
-    of the timer to a stop, and a point for each message that has a place, with altitude and time, and temperature,
-    heart rate, cadence and power as extensions that Garmin defined. `partial` as for `table_text`."""
+    """Returns the track of the record messages as GPX 1.1: a track for each file, a segment for each stretch from a
+    start of the timer to a stop, and a point for each message that has a place, with altitude and time, and
+    temperature, heart rate, cadence and power as extensions that Garmin defined. `partial` as for `table_text`."""
     made: list[str] = []
     try:
         made.extend(parts(source, partial))

@@ -7,7 +7,8 @@ from typing import TYPE_CHECKING, Any, NamedTuple, Optional
 
 from .._times import Time
 from .cells import counted
-from .values import Definition, Reader
+from .readers import Reader
+from .values import Definition
 
 if TYPE_CHECKING:
     from .messages import Message

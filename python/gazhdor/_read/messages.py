@@ -30,9 +30,10 @@ from .blocks import Run
 from .cells import merged
 from .fields import Field
 from .json_lines import line
+from .readers import Number, Value
 from .ready import ready
 from .times import time_of
-from .values import Definition, Entry, Key, Number, Value, degrees, label
+from .values import Definition, Entry, Key, degrees, label
 from .words import word_of
 
 _FILE, _PLACE, _TIME = struct.Struct("<I").unpack_from, struct.Struct("<Q").unpack_from, struct.Struct("<I").unpack_from
@@ -110,9 +111,13 @@ class Message(Mapping[Key, Any]):
         return read(self._block) if read else default
 
     @overload
-    def values(self) -> ValuesView[Any]: ...
+    def values(self) -> ValuesView[Any]:
+        ...
+
     @overload
-    def values(self, key: Key) -> tuple[Union[Number, str, bytes], ...]: ...
+    def values(self, key: Key) -> tuple[Union[Number, str, bytes], ...]:
+        ...
+
     def values(self, key: Optional[Key] = None) -> Any:
         """Returns what a field has as a tuple, however many items it has: its numbers without those that are None, its
         text or bytes; nothing where the message has no such field. Of a name that neither the profile nor the message
@@ -213,8 +218,8 @@ class Message(Mapping[Key, Any]):
         return self._entry(key).unit
 
     def word(self, key: Key) -> Optional[str]:
-        """Returns the word for the number of a field, as 'cycling' for the 2 of "sport", or None where there is none. It
-        raises KeyError where there is no such field."""
+        """Returns the word for the number of a field, as 'cycling' for the 2 of "sport", or None where there is none.
+        It raises KeyError where there is no such field."""
         return word_of(self._definition, self._entry(key), self._block)
 
     def field(self, key: Key) -> Field:
@@ -330,8 +335,8 @@ class Message(Mapping[Key, Any]):
         return self._amount(TOLD_POWER, AT_MESSAGE_POWER)
 
     def ready(self) -> dict[str, Any]:
-        """Returns the values by their labels, each of a type that databases and JSON have: times as datetimes, places in
-        degrees, words, several numbers as `name_0`, `name_1` and so on, bytes as text. A time that the device didn't
+        """Returns the values by their labels, each of a type that databases and JSON have: times as datetimes, places
+        in degrees, words, several numbers as `name_0`, `name_1` and so on, bytes as text. A time that the device didn't
         know, and a float that is no finite number, are None."""
         return ready(self)
 

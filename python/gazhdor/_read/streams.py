@@ -48,9 +48,13 @@ class Stream(Generic[Made]):
     if TYPE_CHECKING:
 
         @overload
-        def __init__(self: "Stream[str]", kind: Literal["check", "show", "table", "to_csv"]) -> None: ...
+        def __init__(self: "Stream[str]", kind: Literal["check", "show", "table", "to_csv"]) -> None:
+            ...
+
         @overload
-        def __init__(self: "Stream[bytes]", kind: Literal["blocks"]) -> None: ...
+        def __init__(self: "Stream[bytes]", kind: Literal["blocks"]) -> None:
+            ...
+
         @overload
         def __init__(
             self: "Stream[list[Message]]",
@@ -58,7 +62,8 @@ class Stream(Generic[Made]):
             only: Only = None,
             names: Told = None,
             words: bool = False,
-        ) -> None: ...
+        ) -> None:
+            ...
 
     def __init__(self, kind: str, only: Only = None, names: Told = None, words: bool = False) -> None:
         if kind not in _KINDS:
@@ -247,7 +252,9 @@ if TYPE_CHECKING:
         names: Told = None,
         everything: Literal[False] = False,
         words: bool = False,
-    ) -> Iterator[Message]: ...
+    ) -> Iterator[Message]:
+        ...
+
     @overload
     def messages(
         source: Source,
@@ -257,7 +264,9 @@ if TYPE_CHECKING:
         *,
         everything: Literal[True],
         words: bool = False,
-    ) -> Iterator[Everything]: ...
+    ) -> Iterator[Everything]:
+        ...
+
     @overload
     def messages(
         source: Source,
@@ -267,7 +276,8 @@ if TYPE_CHECKING:
         *,
         words: bool = False,
         ready: Literal[True],
-    ) -> Iterator[dict[str, Any]]: ...
+    ) -> Iterator[dict[str, Any]]:
+        ...
 
 
 def messages(

@@ -7,7 +7,8 @@ from .._profile import info_of
 from .._words import Words, cases_of, words_by_type
 
 if TYPE_CHECKING:
-    from .values import Definition, Entry, Reader, Value
+    from .readers import Reader, Value
+    from .values import Definition, Entry
 
 _NONE: Words = {}
 

@@ -16,9 +16,9 @@ _TIMER, _START, _STOP_ALL = 0, 0, 4
 def activity(
     columns: Mapping[Any, Any], sport: Union[str, int] = "generic", sink: Optional[Sink] = None, names: Told = None
 ) -> bytes:
-    """Returns the bytes of the FIT file of an activity: a file_id, the start and the end of the timer, a record for each
-    row, a lap, a session and an activity message, which say what the records come to. With `sink` it is also written
-    there.
+    """Returns the bytes of the FIT file of an activity: a file_id, the start and the end of the timer, a record for
+    each row, a lap, a session and an activity message, which say what the records come to. With `sink` it is also
+    written there.
 
     `columns` are those of the records, as for `Definition.columns`, by the names of fields: a mapping of lists or
     arrays, or a DataFrame. "timestamp" has to be one, in the order of time. `sport` is a word or a number of the

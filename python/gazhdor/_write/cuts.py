@@ -209,15 +209,16 @@ class Part:
     def _calories(self, message: Message) -> dict[str, int]:
         """The calories of a lap or a session that is cut: as many as its part of the time in which the timer ran, so
         that those of all parts are those of the whole."""
-        calories, timer = message.get(_CALORIES), self._outline.timer
+        told, timer = message.get(_CALORIES), self._outline.timer
         first, last = span_of(message) or (0, 0)
         whole = timer.ran(first, last)
-        if not isinstance(calories, int):
+        if not isinstance(told, int):
             return {}
+        calories: int = told
 
         def up_to(time: int) -> int:
-            ran = timer.ran(first, min(max(time, first), last))
-            return int(calories * ran // whole if whole else calories * (time >= last))
+            ran: int = timer.ran(first, min(max(time, first), last))
+            return calories * ran // whole if whole else calories * (time >= last)
 
         begin, end = self._span
         # the second with which it begins, or ends, is mostly no part of it

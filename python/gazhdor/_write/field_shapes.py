@@ -71,7 +71,9 @@ def message_number(message: Kind, names: Optional[Names]) -> int:
         more = "; one that has no name is named by its number"
         raise UnknownName("no message is named", str(message), [*profile(), *(names.messages if names else ())], more)
     if not 0 <= number <= 0xFFFF:
-        raise ValueError(f"a message is 0 to 65535, and not {number}" if number < 2**64 else "a message is 0 to 65535")
+        raise ValueError(
+            f"a message is 0 to 65535, and not {number}" if number < 2**64 else "a message is 0 to 65535"
+        )
     return number
 
 
@@ -133,8 +135,7 @@ class Shapes:
             found = self._developers.get(key)  # type: ignore[arg-type]
         if found is None or isinstance(key, str) and key in _known(self._message, self._names):
             if isinstance(key, tuple):
-                told_key: Any = key
-                raise UnknownName("the file describes no developer field", label(told_key), self._described())
+                raise UnknownName("the file describes no developer field", f"{key!r:.40}", self._described())
             return None
         if told is not None and base_named(told).code != found.base:
             raise ValueError(f"{found.name!r} is described as {base_of(found.base).name}")
@@ -149,7 +150,9 @@ class Shapes:
             known = _known(self._message, self._names)
             if key not in known:
                 of = name_of(self._message) or f"message {self._message}"
-                raise UnknownName(f"neither the profile nor the file has in {of} a field", key, [*known, *self._described()])
+                raise UnknownName(
+                    f"neither the profile nor the file has in {of} a field", key, [*known, *self._described()]
+                )
             number = known[key]
         else:
             number = byte("a field", key)

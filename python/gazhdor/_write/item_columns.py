@@ -75,7 +75,9 @@ def _put_bytes(block: bytearray, length: int, pack: Packer, column: Any) -> None
 
 def _items_of_list(pack: Packer, column: list[Any]) -> Any:
     entry = pack.entry
-    column = [_lone(pack, value, row) if isinstance(value, (list, tuple)) else value for row, value in enumerate(column)]
+    column = [
+        _lone(pack, value, row) if isinstance(value, (list, tuple)) else value for row, value in enumerate(column)
+    ]
     if entry.kind == FLOAT:
         made = bytearray()
         for row, value in enumerate(column):

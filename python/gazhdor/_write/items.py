@@ -11,7 +11,8 @@ from fractions import Fraction
 from typing import Any, Optional
 
 from .._numbers import BYTES, FLOAT, SIGNED, STRING
-from .._read.values import Definition, Entry, as_value, degrees, label
+from .._read.readers import as_value
+from .._read.values import Definition, Entry, degrees, label
 from .._times import EPOCH, SYSTEM_TIMES, when
 from ..errors import WrongValue
 

@@ -23,9 +23,9 @@ from .summaries import (
     Outline,
     Summary,
     activity_of,
-    number_of,
     outlines,
     span_of,
+    timer_of,
 )
 from .writer import Writer
 
@@ -150,7 +150,7 @@ class _Joined:
         if told.of[LAP]:
             spans = [(lap, span_of(lap) or (0, 0)) for lap in told.of[LAP]]
             self._spans += (span for _, span in spans)
-            self._ran += sum(_timer(lap, told.timer.ran(*span)) for lap, span in spans)
+            self._ran += sum(timer_of(lap, told.timer.ran(*span)) for lap, span in spans)
         else:
             ran = told.timer.ran(records.start, records.end)
             lap = records.lap(records.start, records.end, ran)
@@ -170,11 +170,6 @@ class _Joined:
         values = {"message_index": 0, **self._all.told(start, end, self._ran), **self._first.sport, **counts}
         Anew("session", {**values, **_whole(self._added), **SESSION_ENDS}).write(self._out)
         activity_of(end, [self._ran], self._first.zone).write(self._out)
-
-
-def _timer(lap: Message, usual: float) -> float:
-    told = number_of(lap, "total_timer_time")
-    return usual if told is None else told
 
 
 def _whole(values: dict[str, Optional[float]]) -> dict[str, int]:

@@ -79,7 +79,8 @@ def _is_too_coarse(times: Any) -> bool:
     import numpy
 
     unit, _ = numpy.datetime_data(times.dtype)
-    return unit in COARSE and bool((numpy.abs(times.astype("i8")) >= MOST_COARSE).any())
+    is_far: bool = (numpy.abs(times.astype("i8")) >= MOST_COARSE).any()
+    return bool(unit in COARSE) and bool(is_far)
 
 
 def _packed(pack: Packer, items: Any, none: Any) -> Optional[memoryview]:

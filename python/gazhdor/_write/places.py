@@ -10,7 +10,9 @@ _SINT32 = base_named("sint32").code
 _MEASURED = {"semicircles", "semicircle", "deg", "degree", "degrees", "\u00b0"}
 _EARTH = re.compile(r"(^|[^a-z])(lat|latitude|long|lon|lng|longitude)([^a-z]|$)", re.I)
 _SPOT = re.compile(r"(^|[^a-z])(position|pos|location|place|gps|geo|coordinates?|address|city)([^a-z]|$)", re.I)
-_ANGLE = re.compile(r"(^|[^a-z])(heading|course|bearing|azimuth|yaw|pitch|roll|tilt|lean|angle|slope|phase)([^a-z]|$)", re.I)
+_ANGLE = re.compile(
+    r"(^|[^a-z])(heading|course|bearing|azimuth|yaw|pitch|roll|tilt|lean|angle|slope|phase)([^a-z]|$)", re.I
+)
 # Texts of places that the profile of the library doesn't name: the location of weather_conditions.
 _TEXTS = {(128, 8)}
 

@@ -12,7 +12,8 @@ from ..errors import NotBinary
 class Writable(Protocol):
     """A binary file object: one that has `write`."""
 
-    def write(self, __data: bytes) -> Any: ...
+    def write(self, __data: bytes) -> Any:
+        ...
 
 
 Sink = Union[str, "os.PathLike[str]", Writable]

@@ -106,6 +106,12 @@ def number_of(message: Message, name: str, other: Optional[float] = None) -> Opt
     return float(value) if isinstance(value, (int, float)) and math.isfinite(value) else other
 
 
+def timer_of(lap: Message, usual: float) -> float:
+    """How long the timer ran in a lap, as it says, or as is usual."""
+    told = number_of(lap, "total_timer_time")
+    return usual if told is None else told
+
+
 def span_of(message: Message) -> Optional[tuple[int, int]]:
     """The first and the last second of a lap or a session; None where it has no time."""
     start, end, elapsed = message.get("start_time"), message.seconds, number_of(message, "total_elapsed_time")

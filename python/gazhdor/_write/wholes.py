@@ -6,7 +6,7 @@ from .._names import EXTRA
 from .._read.events import FileEnd
 from .._read.streams import messages
 from .summaries import ACTIVITY, LAP, LAP_ENDS, RECORD, SESSION, SESSION_ENDS, Anew, Outline, Summary
-from .summaries import activity_of, number_of, outlines, span_of
+from .summaries import activity_of, outlines, span_of, timer_of
 from .writer import Writer
 
 
@@ -24,8 +24,7 @@ class _Ride:
             return []
         start, end = self.all.start, self.all.end
         spans = [(lap, span_of(lap) or (start, start)) for lap in told.of[LAP]]
-        timers = [told.timer.ran(*span) if of is None else of
-            for of, span in ((number_of(lap, "total_timer_time"), span) for lap, span in spans)]
+        timers = [timer_of(lap, told.timer.ran(*span)) for lap, span in spans]
         made: list[Anew] = []
         if self.rest.start is not None:
             begin = self.rest.start if self.laps_end is None else self.laps_end
