@@ -197,6 +197,20 @@ async function seeBeside() {
     seeQuiet(page)
 }
 
+/* Of two files that are dropped at once the second is beside the first. */
+async function seeDropped() {
+    const page = await pageWith()
+    await page.value(`(files => {
+        const dataTransfer = new DataTransfer()
+        for (const [name, text] of files) dataTransfer.items.add(new File([Uint8Array.from(atob(text), letter => letter.charCodeAt(0))], name))
+        document.dispatchEvent(new DragEvent("drop", { dataTransfer, cancelable: true }))
+    })(${JSON.stringify([["ride.fit", RIDE], ["run.fit", run(gazhdor)]].map(([name, bytes]) => [name, Buffer.from(bytes).toString("base64")]))})`)
+    await page.until("document.querySelectorAll('#besides thead th').length === 2")
+    assert.deepEqual(await texts(page, "#besides thead th"), ["ride.fit", "run.fit"])
+    assert.match(await page.text("#summary"), /8\.56 km/)
+    seeQuiet(page)
+}
+
 async function seeSaved() {
     const page = await pageWith("ride.fit", RIDE)
     assert.equal(String(await saved(page, "gpx", "ride.gpx")).match(/<trkpt /g).length, 144)
@@ -219,4 +233,5 @@ test("the track", how, seeTrack)
 test("zones by the user's numbers", how, seeZones)
 test("miles and feet", how, seeUnits)
 test("two rides beside each other", how, seeBeside)
+test("two files that are dropped", how, seeDropped)
 test("GPX, and a file without places", how, seeSaved)
