@@ -174,6 +174,8 @@ async function seeUnits() {
     assert.match(await words(page, "#summary"), /3\.11 mi distance 0:20:50 time 6:42 \/mi/) // 5,000 m in 1,250 s
     await press(page, "km, m")
     assert.match(await words(page, "#summary"), /5\.00 km/)
+    await page.give(laid("run.fit", run(gazhdor)))
+    assert.equal(await page.text("#speed output"), "4:10 /km")
 }
 
 async function seeBeside() {
