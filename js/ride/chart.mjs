@@ -45,11 +45,11 @@ export class Chart {
     #whole({ from, to }) {
         const whole = range(this.column, from, to)
         if (Number.isNaN(whole.low)) return "nothing here"
-        if (this.quantity.isPace) return `at most ${this.text(whole.high)}`
-        const { low, high } = this.shown, least = this.quantity.label(low)
+        const { low, high } = this.shown
         let rest = 0
         for (let k = from; k <= to; k++) if (this.column[k] < low || this.column[k] > high) rest++
-        const text = low === high ? this.text(low) : `${least} to ${this.text(high)}`
+        const several = this.quantity.isPace ? `fastest ${this.text(high)}` : `${this.quantity.label(low)} to ${this.text(high)}`
+        const text = low === high ? this.text(low) : several
         if (rest === 0) return text
         const far = whole.high > high ? this.text(whole.high) : this.text(whole.low)
         return `${text}; ${rest} ${rest === 1 ? "point" : "points"} outside, ${whole.high > high ? "up" : "down"} to ${far}`

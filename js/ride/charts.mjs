@@ -20,8 +20,8 @@ function chartsOf(ride, units, other, by) {
         ["heart_rate", "Heart rate", units.heart], ["power", "Power", units.power], ["cadence", "Cadence", units[manner.cadence]],
         ["temperature", "Temperature", units.temperature],
     ].filter(([name]) => ride.points[name] !== undefined).map(([name, title, quantity, filled = false]) => {
-        const drawn = column => column.map(value => quantity.drawn(value)), same = other?.points[name]
-        return { key: name, colour: name, title, quantity, filled, column: drawn(ride.points[name]), beside: beside && same && { ...beside, column: drawn(same) } }
+        const drawn = column => column.map(value => quantity.drawn(value)), same = beside && other.points[name]
+        return { key: name, colour: name, title, quantity, filled, column: drawn(ride.points[name]), beside: same && { ...beside, column: drawn(same) } }
     })
     const own = ride.points.own.map(({ name, unit, column }, k) =>
         ({ key: `own${k}`, colour: `own${k % 3}`, title: name, quantity: ownQuantity(unit, column), filled: false, column }))

@@ -15,7 +15,7 @@ function end(error) {
 /* Starts a Worker anew; what the one before had to do is given up. `failed` is called where this browser can't run the module. */
 export function start(failed) {
     worker?.terminate()
-    end(new GivenUp())
+    end(new GivenUp("another file came"))
     module ??= Uint8Array.from(atob(byId("module").textContent), letter => letter.charCodeAt(0))
     const url = URL.createObjectURL(new Blob([byId("reader").textContent], { type: "text/javascript" }))
     worker = new Worker(url)

@@ -3,10 +3,8 @@ import { Columns } from "../src/columns.mjs"
 import { Walk } from "../src/messages.mjs"
 
 const RECORD = 20
-const NAMES = [
-    "timestamp", ".latitude", ".longitude", "enhanced_altitude", "altitude", "distance", ".distance", "enhanced_speed", "speed", ".speed", "heart_rate",
-    "power", "cadence", "field_53", "temperature",
-]
+const FIELDS = ["heart_rate", "power", "cadence", "field_53", "temperature"]
+const NAMES = ["timestamp", ".latitude", ".longitude", ".altitude", ".distance", ".speed", ...FIELDS]
 /* So many records are drawn, and so many developer fields: a file of few bytes may have very many of both. */
 export const MOST_POINTS = 1 << 20
 export const MOST_DEVELOPERS = 12
@@ -20,12 +18,6 @@ function numeric(column, length) {
     return column
 }
 
-/* The first of several columns that has a value, for each message. */
-function merged([first, ...others]) {
-    for (const other of others) for (let k = 0; k < first.length; k++) if (Number.isNaN(first[k])) first[k] = other[k]
-    return first
-}
-
 /* Which developer fields records have, by the labels of their columns. */
 export class Developers {
     labels = new Map()
@@ -36,7 +28,7 @@ export class Developers {
         if (definition.number !== RECORD || this.#rows >= MOST_POINTS) return
         this.#rows += (end - begin) / length
         for (const [label, entry] of definition.labels) {
-            if (entry.index === null || !entry.isNumber || NAMES.includes(label) || this.labels.has(label)) continue
+            if (entry.index === null || !entry.isNumber || FIELDS.includes(label) || this.labels.has(label)) continue
             this.count++
             if (this.labels.size < MOST_DEVELOPERS) this.labels.set(label, { name: entry.name ?? label, unit: entry.unit ?? "" })
         }
@@ -68,13 +60,12 @@ export class Points {
 
     done() {
         const found = this.#columns.done(), length = found.timestamp.length
-        const of = (...names) => merged(names.map(name => numeric(found[name], length)))
+        const of = name => numeric(found[name], length)
         const cadence = of("cadence"), parts = of("field_53")
         for (let k = 0; k < length; k++) if (parts[k] < 128) cadence[k] += parts[k] / 128
         const points = {
-            time: of("timestamp"), latitude: of(".latitude"), longitude: of(".longitude"), altitude: of("enhanced_altitude", "altitude"),
-            distance: of("distance", ".distance"), speed: of("enhanced_speed", "speed", ".speed"), heart_rate: of("heart_rate"), power: of("power"),
-            cadence, temperature: of("temperature"),
+            time: of("timestamp"), latitude: of(".latitude"), longitude: of(".longitude"), altitude: of(".altitude"),
+            distance: of(".distance"), speed: of(".speed"), heart_rate: of("heart_rate"), power: of("power"), cadence, temperature: of("temperature"),
         }
         for (const [name, column] of Object.entries(points)) if (!isThere(column)) delete points[name]
         const own = [...this.#labels].map(([label, told]) => ({ ...told, column: of(label) })).filter(({ column }) => isThere(column))

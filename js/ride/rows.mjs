@@ -1,5 +1,6 @@
 /* Sessions, laps and lengths as rows: what the page shows of such a message, as plain numbers, and null for what it doesn't say. */
-import { Message, SYSTEM_TIMES, milliseconds } from "../src/messages.mjs"
+import { Message } from "../src/messages.mjs"
+import { SYSTEM_TIMES, milliseconds } from "../src/plain.mjs"
 
 const TOTALS = [
     "total_distance", "total_elapsed_time", "total_timer_time", "total_ascent", "total_descent", "total_calories", "total_cycles",

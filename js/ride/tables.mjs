@@ -24,7 +24,7 @@ function columnsOf(rows, units, sport, begin) {
         ["avg_cadence", isMixed ? "Cadence" : units[one.cadence].unit, told("cadence", "avg_cadence")],
         ["max_speed", `Max. ${isMixed ? "speed" : speedHead.toLowerCase()}`, told("speed", "max_speed")],
         ["max_heart_rate", "Max. bpm", row => number("heart")(row.max_heart_rate)], ["max_power", "Max. W", row => number("power")(row.max_power)],
-        ["total_elapsed_time", "With pauses", row => duration(row.total_elapsed_time)],
+        ["total_elapsed_time", "With pauses", row => (row.total_elapsed_time === row.total_timer_time ? "" : duration(row.total_elapsed_time))],
         ["total_ascent", `Up ${units.height.unit}`, row => number("height")(row.total_ascent)],
         ["total_descent", `Down ${units.height.unit}`, row => number("height")(row.total_descent)],
         ["total_calories", "kcal", row => number("energy")(row.total_calories)],

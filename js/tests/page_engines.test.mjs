@@ -27,7 +27,7 @@ try {
     taken.items.add(new File([Uint8Array.from(atob("BYTES"), letter => letter.charCodeAt(0))], "run.fit"))
     one("#file").files = taken.files
     one("#file").dispatchEvent(new Event("change"))
-    for (let k = 0; k < 3000 && !["shown", "failed"].includes(document.body.dataset.state); k++) await wait()
+    for (let k = 0; k < 9000 && !["shown", "failed"].includes(document.body.dataset.state); k++) await wait()
     Object.assign(told, { finding: one("#finding").textContent, cards: one("#summary").textContent, plots: document.querySelectorAll("#drawn .plot").length })
     told.track = one("#track .drawn").getAttribute("d").length
     told.laps = document.querySelectorAll("#laps tbody tr").length
@@ -78,7 +78,7 @@ async function toldBy(start) {
         if (url.startsWith("/?")) hear(JSON.parse(decodeURIComponent(url.slice(2))))
     })
     await new Promise(listening => server.listen(0, "127.0.0.1", listening))
-    const limit = setTimeout(() => heardNothing(new Error("the browser told nothing")), 120000)
+    const limit = setTimeout(() => heardNothing(new Error("the browser told nothing")), 300000)
     try {
         await start(copied(folder, server.address().port, run(await open())), folder, started)
         return await heard
@@ -131,7 +131,7 @@ async function seeFirefox() {
 /* To be left out where there is none of these. */
 const where = (...kinds) => {
     const lacks = kinds.find(names => program(...names) === undefined)
-    return lacks === undefined ? { timeout: 200000 } : { skip: `there is no ${lacks[0].split("/").pop()}` }
+    return lacks === undefined ? { timeout: 400000 } : { skip: `there is no ${lacks[0].split("/").pop()}` }
 }
 
 test("in Safari's engine", where(MINIBROWSERS, ["Xvfb"]), seeWebKit)

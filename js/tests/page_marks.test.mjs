@@ -174,6 +174,8 @@ async function seeUnits() {
     assert.match(await words(page, "#summary"), /3\.11 mi distance 0:20:50 time 6:42 \/mi/) // 5,000 m in 1,250 s
     await press(page, "km, m")
     assert.match(await words(page, "#summary"), /5\.00 km/)
+    await page.give(laid("run.fit", run(gazhdor)))
+    assert.equal(await page.text("#speed output"), "4:10 /km")
 }
 
 async function seeBeside() {
@@ -194,6 +196,20 @@ async function seeBeside() {
     await press(page, "Put it away")
     assert.deepEqual(await page.value(second), [])
     assert.equal(await page.value("document.querySelector('#besides').childElementCount"), 0)
+    seeQuiet(page)
+}
+
+/* Of two files that are dropped at once the second is beside the first. */
+async function seeDropped() {
+    const page = await pageWith()
+    await page.value(`(files => {
+        const dataTransfer = new DataTransfer()
+        for (const [name, text] of files) dataTransfer.items.add(new File([Uint8Array.from(atob(text), letter => letter.charCodeAt(0))], name))
+        document.dispatchEvent(new DragEvent("drop", { dataTransfer, cancelable: true }))
+    })(${JSON.stringify([["ride.fit", RIDE], ["run.fit", run(gazhdor)]].map(([name, bytes]) => [name, Buffer.from(bytes).toString("base64")]))})`)
+    await page.until("document.querySelectorAll('#besides thead th').length === 2")
+    assert.deepEqual(await texts(page, "#besides thead th"), ["ride.fit", "run.fit"])
+    assert.match(await page.text("#summary"), /8\.56 km/)
     seeQuiet(page)
 }
 
@@ -219,4 +235,5 @@ test("the track", how, seeTrack)
 test("zones by the user's numbers", how, seeZones)
 test("miles and feet", how, seeUnits)
 test("two rides beside each other", how, seeBeside)
+test("two files that are dropped", how, seeDropped)
 test("GPX, and a file without places", how, seeSaved)

@@ -13,7 +13,7 @@ import { MOST_DEVELOPERS, MOST_POINTS } from "../ride/points.mjs"
 import { memoryOf, rideOf } from "../ride/reading.mjs"
 import { MOST_DRAWN, across, shownRange, thinned } from "../ride/scales.mjs"
 import { duration, unitsOf } from "../ride/units.mjs"
-import { developer, run, swim, triathlon } from "./rides.mjs"
+import { developer, paused, run, swim } from "./rides.mjs"
 import { RIDE, allFiles, folder, inTree, program, random } from "./tools.mjs"
 
 const gazhdor = await open()
@@ -125,10 +125,11 @@ async function seePython() {
     const place = folder(), env = { ...process.env, PYTHONPATH: inTree("python") }
     const { "mixed.fit": mixed, "recorded-developer.fit": recorded } = await allFiles()
     const python = (...words) => spawnSync("python3", ["-m", "gazhdor", ...words], { env, maxBuffer: 2 ** 30 })
-    const files = [RIDE, mixed, developer(gazhdor), triathlon(gazhdor), RIDE.subarray(0, 2000), ...(recorded ? [recorded] : [])]
+    const files = [RIDE, mixed, developer(gazhdor), paused(gazhdor), RIDE.subarray(0, 2000), ...(recorded ? [recorded] : [])]
     const paths = files.map((bytes, k) => join(place, `${k}.fit`))
     paths.forEach((path, k) => writeFileSync(path, files[k]))
     assert.equal(files.map(bytes => Buffer.from(gpxOf(gazhdor, bytes))).join(""), String(python("gpx", ...paths).stdout))
+    assert.equal(String(Buffer.from(gpxOf(gazhdor, files[3]))).match(/<\/trkseg><trkseg>/g).length, 1) // the timer was stopped once
     for (const k of [0, 1, 2, 5].filter(one => one < files.length)) {
         const edited = python("edit", "--drop", "position", paths[k], join(place, "out.fit"))
         assert.equal(edited.status, 0, `${k}: ${edited.stderr}`)

@@ -160,3 +160,19 @@ export function manySessions(count) {
         view.setUint8(at + 4, k % 255)
     })
 }
+
+/* Two minutes with power, in which the timer is stopped from the 40th to the 60th second. */
+export function paused(gazhdor) {
+    const made = new Recording()
+    made.define(1, 20, "record", POWERED)
+    made.define(0, 21, "event", [TIME, [0, 0, "event"], [1, 0, "event_type"]])
+    made.add(0, BEGIN, 0, 0)
+    let k = 0
+    for (const values of seconds(120, { speed: 8 })) {
+        if (k === 40) made.add(0, BEGIN + k, 0, 4)
+        if (k === 60) made.add(0, BEGIN + k, 0, 0)
+        if (k < 40 || k >= 60) made.add(1, ...values, 200 + k)
+        k++
+    }
+    return made.made(gazhdor)
+}
