@@ -1,5 +1,5 @@
 -- A list cut into pieces of one length, and loops over bytes and pieces.
-use Rattle.fit_sum.proofs.Common.{◌≡◌, ℕ, zero, suc, ◌+◌, ◌*◌, ◌<◌, ◌≤◌, List, [], ◌∷◌, ◌++◌, length, take, drop, get_or, refl, ap, ◌∙◌, arith, add-one}
+use Rattle.fit_sum.proofs.Common.{◌≡◌, ℕ, zero, suc, ◌+◌, ◌*◌, ◌<◌, List, [], ◌∷◌, ◌++◌, length, take, drop, get_or, refl, ap, ◌∙◌, arith, add-one}
 use Rattle.fit_sum.proofs.Common.{append_assoc, drop-drop, bit_xor, concat, first_chunks, take-suc, take-append-drop, append-nil, concat-append, shifts, run}
 use Rattle.fit_sum.proofs.Division.{run-append}
 
@@ -17,13 +17,6 @@ concat-turn xss i h = rw (add-one, take-suc xss i [] h)
 pub run-none : (register : ℕ) → run register [] ≡ register
 unfolding run
 run-none register = refl
-
--- a single byte
-pub run-one : (register : ℕ) (bytes : List ℕ) → 1 ≤ length bytes → length bytes < 2 → run register bytes ≡ shifts 8 (bit_xor register (get_or bytes 0 0))
-unfolding run
-run-one register [] some few = absurd (omega (arith, some))
-run-one register (b ∷ []) some few = refl
-run-one register (b ∷ c ∷ bytes) some few = absurd (omega (arith, few))
 
 -- one byte more
 pub run-byte : (register : ℕ) (bytes : List ℕ) (i : ℕ) → i < length bytes

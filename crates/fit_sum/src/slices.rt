@@ -4,9 +4,7 @@ ghost use Rattle.fit_sum.specs.inner.Register.{shifts, run};
 
 use crate::tables::left_after;
 
-/// The register after one more byte.
-#[inline(always)]
-pub(crate) fn add_one(register: u16, byte: u8) -> u16
+fn add_one(register: u16, byte: u8) -> u16
     ensures { result ≡ shifts 8 (bit_xor register byte) }
 {
     let low = (register % 256) as u8;

@@ -8,7 +8,7 @@ ghost use Rattle.std.specs.List.{concat};
 ghost use Rattle.fit_sum.specs.inner.Register.{run, AllBytes};
 ghost use Rattle.fit_sum.specs.inner.Words.{bytes_number, turns, words_from, mix, spelled};
 
-use crate::slices::{add_by_eights, add_eight, add_one};
+use crate::slices::{add_by_eights, add_eight};
 
 /// Word `at` of a block, its lowest byte first.
 #[inline]
@@ -131,15 +131,13 @@ fn add_long(register: u16, bytes: &[u8]) -> u16
     }
 }
 
-/// The register after more bytes. Where they are few, little is done besides the look-ups; a message may be a single one.
+/// The register after more bytes. Where they are few, little is done besides the look-ups.
 #[inline(always)]
 pub(crate) fn add_bytes(register: u16, bytes: &[u8]) -> u16
     ensures register { result ≡ run register bytes.now }
     ensures bytes { AllBytes bytes.now }
 {
-    if let [byte] = bytes {
-        add_one(register, *byte)
-    } else if bytes.len() < 256 {
+    if bytes.len() < 256 {
         add_by_eights(register, bytes)
     } else {
         add_long(register, bytes)
