@@ -132,7 +132,15 @@ pub(crate) fn are_same<A: Allocator>(a: &MessageDef<A>, b: &MessageDef<A>) -> bo
 pub fn same_fields(a: &[FieldDef], b: &[FieldDef]) -> bool
     ensures { IsTrue result ↔ (a.now ≡ b.now) }
 {
-    a.last() == b.last() && a == b
+    if a.len() != b.len() || a.last() != b.last() {
+        return false;
+    }
+    for place in 0..a.len() {
+        if a[place] != b[place] {
+            return false;
+        }
+    }
+    true
 }
 
 /// The same definition, in memory of its own.
