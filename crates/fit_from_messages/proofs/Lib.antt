@@ -10,12 +10,13 @@ pub mod HeaderBack
 pub mod EventsBack
 pub mod ChainBack
 mod ReadNumbers
-mod CutEntries
+pub mod CutEntries
 pub mod SameSayings
 mod DefinitionFacts
 pub mod OneFinding
 mod PlacedItems
 mod MessageFacts
+mod LoneBlocks
 mod SoundFiles
 mod DefinedSlots
 mod HeaderForms

@@ -7,7 +7,7 @@ ghost use Rattle.fit_base.specs.Fields.{items_bytes};
 ghost use Rattle.fit_base.specs.Numbers.{number_bytes};
 ghost use Rattle.fit_record.specs.ReadMessages.{numbers_of};
 ghost use Rattle.fit_from_messages.specs.Parts.{items_read, slot_stands};
-ghost use Rattle.fit_from_messages.specs.inner.Slots.{IsSlot, slot_size};
+ghost use Rattle.fit_from_messages.specs.Slots.{IsSlot, slot_size};
 
 use crate::slot::Slot;
 use fit_base::{Order, bits_at};

@@ -1,10 +1,10 @@
 //! Where the items of a field are.
 ghost use Rattle.std.specs.Prelude.{◌≡◌};
-ghost use Rattle.fit_from_messages.specs.inner.Slots.{slot_size};
+ghost use Rattle.fit_from_messages.specs.Slots.{slot_size};
 
 /// Where the items of a field are in the block of a message, how many bytes each has, and how many there are.
 #[derive(Clone, Copy)]
-pub(crate) struct Slot {
+pub struct Slot {
     pub place: u32,
     pub width: u8,
     pub count: u8,
