@@ -6,4 +6,6 @@ mod asserts;
 #[cfg(test)]
 mod back;
 #[cfg(test)]
+mod put;
+#[cfg(test)]
 mod refused;
