@@ -46,7 +46,7 @@ dated_says f block t told alone =
 
 read_as : (before : List (Record Global)) (f g : Form) (block : List ℕ) → IsNeeded before f block g → IsReadAs (said_reading f block) (said_reading g block)
 read_as before f g block (inl (never, same)) = inl (ap (λ (h : Form). said_reading h block) same)
-read_as before f g block (inr (t, needs, same)) = inr (
+read_as before f g block (inr (t, needs, few, less, same)) = inr (
   t,
   ap (λ (o : Option ℕ). or_else o (header_time_in block)) needs.alone ∙ needs.told,
   ap (λ (h : Form). said_reading h block) same ∙ dated_says f block t needs.told needs.alone,

@@ -9,22 +9,22 @@ use Rattle.fit_record.specs.declared.definition.MessageDef.{MessageDef}
 use Rattle.fit_record.specs.declared.environment.Defined.{Defined}
 use Rattle.fit_record.specs.declared.message.Record.{Record}
 use Rattle.fit_record.specs.declared.message.Record.TheVariants.{Define, Values as Data}
-use Rattle.fit_record.specs.Environment.{dev_defs}
+use Rattle.fit_record.specs.Environment.{defined_at, dev_defs}
 use Rattle.fit_record.specs.Faults.{or_else}
 use Rattle.fit_record.specs.HeaderByte.{bit}
 use Rattle.fit_record.specs.Records.{DataHeaderFits}
+use Rattle.fit_profile.specs.Looks.{known}
 use Rattle.fit_profile.specs.Times.{header_time, previous_time, valid_time}
 use Rattle.fit_from_messages.specs.Parts.{byte_at, entries_of, number_read, offset_in}
 use Rattle.fit_from_messages.specs.declared.fault.BlockReason.{BlockReason}
 use Rattle.fit_writer.proofs.Reads.{none_long, read_there, same_after, says_own}
 use Rattle.fit_writer.specs.Reading.{Form, Reading, IsReadAs, dated, header_time_in}
 use Rattle.fit_writer.specs.Reading.{entry_naming, fields_time, reading_after, said_reading, timestamp_field, values_by}
-use Rattle.fit_writer.specs.Written.{CanName, IsNeeded, IsPlaceRefusal, IsPut, KeepsOffset, NeedsTimestamp, SaysSame, data_length, with_definition}
+use Rattle.fit_writer.specs.Written.{CanName, IsNeeded, IsPlaced, IsPlaceRefusal, IsPut, KeepsOffset, NeedsTimestamp, SaysSame, data_length, with_definition, with_local}
 use Rattle.fit_writer.specs.declared.refusal.Refusal.{Refusal}
 use Rattle.fit_writer.specs.declared.refusal.Refusal.TheVariants.{NoFile, Block, Message, TooManyFiles, Full, Time, Described, TooLong, NoMemory}
 use Rattle.fit_writer.specs.inner.OpenFiles.{IsUnput}
-use Rattle.fit_writer.specs.inner.Places.{with_local}
-use Rattle.fit_writer.specs.inner.Puts.{IsChosen, IsKeptOffset, IsRefusedPut, IsTold, IsUnchosen, IsUnplaced, LosesTime, limit_of, told_after}
+use Rattle.fit_writer.specs.inner.Puts.{IsChosen, IsKeptOffset, IsRefusedPut, IsSeated, IsTold, IsUnchosen, IsUnplaced, LosesTime, limit_of, told_after}
 
 -- ---- record headers
 
@@ -43,8 +43,13 @@ told_known s local f block offset same own = record {
   records = refl;
   told = read_there s local f block offset same.0 same.1;
   offset_is = refl;
-  own = own;
-  fresh = λ d is. absurd (cc is);
+  seated = record {
+    own = own;
+    fresh = λ d is. absurd (cc is);
+    defines = λ d is. absurd (cc is);
+    own_free = λ d is. absurd (cc is);
+    free = λ d is. absurd (cc is);
+  };
 }
 
 no_namings : (codes entries : List ℕ) → codes ≡ [] → map entry_naming (entries_of (length codes) entries) ≡ []
@@ -53,8 +58,10 @@ no_namings codes entries none = ap (λ (c : List ℕ). map entry_naming (entries
 pub told_both : (s : List (Record Global)) (local : ℕ) (f : Form) (block entries : List ℕ) (offset : Option ℕ) → local < 16 → dev_defs f.definition.dev ≡ []
     → f.codes ≡ [] → f.namings ≡ map entry_naming (entries_of (length f.codes) entries)
     → ((k : ℕ) (p : Defined Global) → k < limit_of offset → SaysSame s k f p → ⊥)
+    → (f.definition.local < limit_of offset → defined_at (known s) f.definition.local ≡ None → local ≡ f.definition.local)
+    → ((k : ℕ) → k < limit_of offset → defined_at (known s) k ≡ None → defined_at (known s) local ≡ None)
     → IsTold s f block offset (Data (values_by f block local offset) ∷ Define (with_local f.definition local) ∷ s)
-told_both s local f block entries offset few dev codes namings none = record {
+told_both s local f block entries offset few dev codes namings none own free = record {
   defined = Some (with_local f.definition local);
   message = values_by f block local offset;
   records = refl;
@@ -62,9 +69,17 @@ told_both s local f block entries offset few dev codes namings none = record {
       (says_own s f local few dev codes (namings ∙ no_namings f.codes entries codes))
       ∙ ap Some (same_after s (with_local f.definition local) f block offset);
   offset_is = refl;
-  own = λ p less same. absurd (none f.definition.local p less same);
-  fresh = λ d is. none;
+  seated = record {
+    own = λ p less same. absurd (none f.definition.local p less same);
+    fresh = λ d is. none;
+    defines = λ d is. (sym (some_is (with_local f.definition local) d is), ap (λ (e : MessageDef Global). dev_defs e.dev) (sym (some_is (with_local f.definition local) d is)) ∙ dev);
+    own_free = λ d is. own;
+    free = λ d is. free;
+  };
 }
+  where
+    some_is : (a b : MessageDef Global) → Some a ≡ Some b → a ≡ b
+    some_is a b is = cc
 
 -- why it wasn't
 pub unplaced : (s : List (Record Global)) (f : Form) (block : List ℕ) (offset : Option ℕ) (after : List (Record Global)) (why : Refusal)
@@ -115,14 +130,14 @@ same_told : (s : List (Record Global)) (f g : Form) (block : List ℕ) (offset :
 same_told s f g block offset (inl (never, same)) kept =
     ap (at_time (said_reading g block)) (plain_told s g block offset
     (subst (λ (h : Form). (t : ℕ) → LosesTime h block (is_some offset) t → ⊥) (sym same) never) kept)
-same_told s f g block offset (inr (t, loses, less, same)) kept =
+same_told s f g block offset (inr (t, loses, few, less, same)) kept =
     let own : fields_time g block ≡ Some t = ap (λ (h : Form). fields_time h block) same ∙ dated_time f block t loses.told less in
     ap (at_time (said_reading g block)) (ap (λ (o : Option ℕ). or_else o (header_time (previous_time s) offset)) own
     ∙ sym (ap (λ (o : Option ℕ). or_else o (header_time_in block)) own))
 
 same_dev : (f g : Form) (block : List ℕ) (kept : Bool) → IsChosen f block kept g → dev_defs g.definition.dev ≡ dev_defs f.definition.dev
 same_dev f g block kept (inl (never, same)) = ap (λ (h : Form). dev_defs h.definition.dev) same
-same_dev f g block kept (inr (t, loses, less, same)) = ap (λ (h : Form). dev_defs h.definition.dev) same
+same_dev f g block kept (inr (t, loses, few, less, same)) = ap (λ (h : Form). dev_defs h.definition.dev) same
 
 pub no_codes : (f g : Form) (block : List ℕ) (kept : Bool) → IsChosen f block kept g → length g.codes ≡ length (dev_defs g.definition.dev)
     → dev_defs f.definition.dev ≡ [] → g.codes ≡ []
@@ -144,16 +159,16 @@ loses_by : (s : List (Record Global)) (f : Form) (block : List ℕ) (offset : Op
 loses_by s f block None t kept n = record { lost = refl; told = n.told; alone = n.alone }
 loses_by s f block (Some o) t kept n = absurd (n.lost (keeps s block (Some o) kept refl))
 
-is_needed : (s : List (Record Global)) (f g : Form) (block : List ℕ) (offset : Option ℕ) → IsKeptOffset s block offset → IsChosen f block (is_some offset) g
+pub is_needed : (s : List (Record Global)) (f g : Form) (block : List ℕ) (offset : Option ℕ) → IsKeptOffset s block offset → IsChosen f block (is_some offset) g
     → IsNeeded s f block g
 is_needed s f g block offset kept (inl (never, same)) = inl (λ t n. never t (loses_by s f block offset t kept n), same)
-is_needed s f g block offset kept (inr (t, loses, less, same)) = inr (t, needs s f block offset t kept loses, same)
+is_needed s f g block offset kept (inr (t, loses, few, less, same)) = inr (t, needs s f block offset t kept loses, few, less, same)
 
 -- of the form that it needs
 pub refused_form : (s : List (Record Global)) (f : Form) (block : List ℕ) (offset : Option ℕ) (first : Option BlockReason) (why : Refusal) → first ≡ None
     → IsKeptOffset s block offset → IsUnchosen f block (is_some offset) why → IsRefusedPut s f block first why
 refused_form s f block offset first Full none kept (t, loses, many) = (none, (t, needs s f block offset t kept loses, many))
-refused_form s f block offset first Time none kept loses = (none, needs s f block offset 0xFFFFFFFF kept loses)
+refused_form s f block offset first Time none kept (loses, few) = (none, needs s f block offset 0xFFFFFFFF kept loses, few)
 refused_form s f block offset first NoMemory none kept h = tt
 refused_form s f block offset first NoFile none kept h = absurd h
 refused_form s f block offset first (Block reason) none kept h = absurd h
@@ -174,17 +189,19 @@ offset_kept : (s : List (Record Global)) (block : List ℕ) (offset : Option ℕ
 offset_kept s block (Some o) kept k = sym kept.is
 offset_kept s block None kept k = absurd (kept.none refl k)
 
-same_local : (f g : Form) (block : List ℕ) (kept : Bool) → IsChosen f block kept g → g.definition.local ≡ f.definition.local
-same_local f g block kept (inl (never, same)) = ap (λ (h : Form). h.definition.local) same
-same_local f g block kept (inr (t, loses, less, same)) = ap (λ (h : Form). h.definition.local) same
+no_offset : (s : List (Record Global)) (block : List ℕ) (offset : Option ℕ) → IsKeptOffset s block offset → (KeepsOffset s block → ⊥) → offset ≡ None
+no_offset s block (Some o) kept no = absurd (no (keeps s block (Some o) kept refl))
+no_offset s block None kept no = refl
 
-told_own : (s : List (Record Global)) (f g : Form) (block : List ℕ) (offset : Option ℕ) (after : List (Record Global))
-    → IsChosen f block (is_some offset) g → IsKeptOffset s block offset → (told : IsTold s g block offset after) (p : Defined Global)
-    → CanName s block f.definition.local → SaysSame s f.definition.local g p → told.message.local ≡ f.definition.local
-told_own s f g block offset after chosen kept told p names same =
-    let local : g.definition.local ≡ f.definition.local = same_local f g block (is_some offset) chosen in
-    told.own p (subst (λ (n : ℕ). n < limit_of offset) (sym local) (within s block offset f.definition.local kept names.0 names.1))
-    (subst (λ (n : ℕ). SaysSame s n g p) (sym local) same) ∙ local
+placed_as : (s : List (Record Global)) (g : Form) (block : List ℕ) (offset : Option ℕ) (defined : Option (MessageDef Global)) (local : ℕ)
+    → IsKeptOffset s block offset → IsSeated s g (limit_of offset) defined local → IsPlaced s g block defined local
+placed_as s g block offset defined local kept seated = record {
+  own = λ p names same. seated.own p (within s block offset g.definition.local kept names.0 names.1) same;
+  fresh = λ d is k p names same. seated.fresh d is k p (within s block offset k kept names.0 names.1) same;
+  defines = λ d is. seated.defines d is;
+  own_free = λ d is names none. seated.own_free d is (within s block offset g.definition.local kept names.0 names.1) none;
+  free = λ d is k names none. seated.free d is k (within s block offset k kept names.0 names.1) none;
+}
 
 pub put_as : (s : List (Record Global)) (f g : Form) (block : List ℕ) (offset : Option ℕ) (after : List (Record Global))
     → IsChosen f block (is_some offset) g → IsKeptOffset s block offset → IsTold s g block offset after → IsPut s after f block
@@ -196,8 +213,8 @@ put_as s f g block offset after chosen kept told = record {
   records = told.records;
   told = told.told ∙ ap Some (same_told s f g block offset chosen kept);
   kept = λ k. told.offset_is ∙ offset_kept s block offset kept k;
-  own = λ p names same. told_own s f g block offset after chosen kept told p names same;
-  fresh = λ d is local p names same. told.fresh d is local p (within s block offset local kept names.0 names.1) same;
+  without = λ no. told.offset_is ∙ no_offset s block offset kept no;
+  placed = placed_as s g block offset told.defined told.message.local kept told.seated;
 }
 
 -- of the place

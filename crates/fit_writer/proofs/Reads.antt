@@ -18,9 +18,8 @@ use Rattle.fit_profile.specs.Described.{Naming, namings_at}
 use Rattle.fit_profile.specs.Looks.{known}
 use Rattle.fit_profile.specs.Times.{field_time, header_time, previous_time, time}
 use Rattle.fit_writer.specs.Reading.{Form, Reading, fields_time, reading_after, reading_by, values_by}
-use Rattle.fit_writer.specs.Written.{SaysSame}
+use Rattle.fit_writer.specs.Written.{SaysSame, with_local}
 use Rattle.fit_writer.specs.inner.Puts.{told_after}
-use Rattle.fit_writer.specs.inner.Places.{with_local}
 
 -- a reading depends on no more of definition and values
 same_reading : (d e : MessageDef Global) (a b : List ℕ) (m n : List Naming) (v w : Values Global) (t u : Option ℕ) → d.global ≡ e.global

@@ -100,18 +100,36 @@ pub record NeedsTimestamp (before : List (Record Global)) (f : Form) (block : Li
   pub told : header_time_in block ≡ Some t
   pub alone : fields_time f block ≡ None
 
--- the form that the message needs: its own, or with a timestamp
+-- The form that the message needs: its own, or with a timestamp. There is none where there are 255 fields, or the time is the number that
+-- stands for none.
 abbrev pub IsNeeded : List (Record Global) → Form → List ℕ → Form → Type 0
 IsNeeded before f block needed =
-    (((t : ℕ) → NeedsTimestamp before f block t → ⊥) × (needed ≡ f)) ⊎ ((t : ℕ) × NeedsTimestamp before f block t × (needed ≡ dated f))
+    (((t : ℕ) → NeedsTimestamp before f block t → ⊥) × (needed ≡ f))
+    ⊎ ((t : ℕ) × NeedsTimestamp before f block t × (length f.definition.fields < 255) × (t < 0xFFFFFFFF) × (needed ≡ dated f))
 
 -- the local message types that the record header of the message can name: 4 with a time offset
 abbrev pub CanName : List (Record Global) → List ℕ → ℕ → Type 0
 CanName before block local = (local < 16) × (KeepsOffset before block → local < 4)
 
+-- the same definition for another local message type
+abbrev pub with_local : MessageDef Global → ℕ → MessageDef Global
+with_local d local = record d { local = local }
+
+-- Which local message type a message of this form gets, and when a definition message comes before it: only where none that its header can
+-- name says the same, and never with developer fields. A local message type that says the same or is free is taken before others, and first
+-- of all that of the block of the definition.
+pub record IsPlaced (before : List (Record Global)) (form : Form) (block : List ℕ) (defined : Option (MessageDef Global)) (local : ℕ) : Type 0 where
+  pub own : (p : Defined Global) → CanName before block form.definition.local → SaysSame before form.definition.local form p
+      → local ≡ form.definition.local
+  pub fresh : (d : MessageDef Global) → defined ≡ Some d → (k : ℕ) (p : Defined Global) → CanName before block k → SaysSame before k form p → ⊥
+  pub defines : (d : MessageDef Global) → defined ≡ Some d → (d ≡ with_local form.definition local) × (dev_defs d.dev ≡ [])
+  pub own_free : (d : MessageDef Global) → defined ≡ Some d → CanName before block form.definition.local
+      → defined_at (known before) form.definition.local ≡ None → local ≡ form.definition.local
+  pub free : (d : MessageDef Global) → defined ≡ Some d → (k : ℕ) → CanName before block k → defined_at (known before) k ≡ None
+      → defined_at (known before) local ≡ None
+
 -- A message was put after these records, in the form that it needs: a reader is told what a block of that form says. Its time offset is kept
--- where it can be. A definition message comes before it only where none that it can name says the same; where that of its own local message
--- type does, it has that one.
+-- where that says the same time here; else it has none.
 pub record IsPut (before after : List (Record Global)) (f : Form) (block : List ℕ) : Type 0 where
   pub form : Form
   pub needed : IsNeeded before f block form
@@ -120,19 +138,23 @@ pub record IsPut (before after : List (Record Global)) (f : Form) (block : List 
   pub records : after ≡ Data message ∷ with_definition defined before
   pub told : reading_after (with_definition defined before) message ≡ Some (said_reading form block)
   pub kept : KeepsOffset before block → message.offset ≡ offset_in block
-  pub own : (p : Defined Global) → CanName before block f.definition.local → SaysSame before f.definition.local form p
-      → message.local ≡ f.definition.local
-  pub fresh : (d : MessageDef Global) → defined ≡ Some d → (local : ℕ) (p : Defined Global) → CanName before block local
-      → SaysSame before local form p → ⊥
+  pub without : (KeepsOffset before block → ⊥) → message.offset ≡ None
+  pub placed : IsPlaced before form block defined message.local
 
 abbrev pub PutsMessage : Writing → Writing → Form → List ℕ → Type 0
 PutsMessage old new form block =
     IsSomeAnd old.current (λ f. (after : List (Record Global)) × IsPut f.records after form block × (new ≡ with_records old f after))
 
--- After a refusal nothing has changed; but where memory was refused a definition message may have been put.
-abbrev pub KeepsAll : Writing → Writing → Refusal → Type 0
-KeepsAll old new NoMemory = (new ≡ old) ⊎ IsSomeAnd old.current (λ f. (d : MessageDef Global) × (new ≡ with_records old f (Define d ∷ f.records)))
-KeepsAll old new _ = new ≡ old
+-- Of the message just the definition message was put that it needs.
+abbrev pub PutsHalf : List (Record Global) → List (Record Global) → Form → List ℕ → Type 0
+PutsHalf before after f block =
+    (needed : Form) × IsNeeded before f block needed × (local : ℕ) × (after ≡ Define (with_local needed.definition local) ∷ before)
+
+-- After a refusal nothing has changed; but where memory was refused, the definition message that the message needs may have been put.
+abbrev pub KeepsAll : Writing → Writing → Form → List ℕ → Refusal → Type 0
+KeepsAll old new form block NoMemory =
+    (new ≡ old) ⊎ IsSomeAnd old.current (λ f. (after : List (Record Global)) × PutsHalf f.records after form block × (new ≡ with_records old f after))
+KeepsAll old new form block _ = new ≡ old
 
 -- ---- why a call is refused
 
@@ -157,7 +179,7 @@ IsDefinitionRefusal (Some f) block _ = ⊥
 -- number that stands for none; no definition that its header can name describes its developer fields so; or the data would be too long.
 abbrev pub IsPlaceRefusal : List (Record Global) → Form → List ℕ → Refusal → Type 0
 IsPlaceRefusal before f block Full = (t : ℕ) × NeedsTimestamp before f block t × (length f.definition.fields ≡ 255)
-IsPlaceRefusal before f block Time = NeedsTimestamp before f block 0xFFFFFFFF
+IsPlaceRefusal before f block Time = NeedsTimestamp before f block 0xFFFFFFFF × (length f.definition.fields < 255)
 IsPlaceRefusal before f block Described =
     (needed : Form) × IsNeeded before f block needed × (dev_defs f.definition.dev ≡ [] → ⊥)
     × ((local : ℕ) (p : Defined Global) → CanName before block local → SaysSame before local needed p → ⊥)

@@ -12,10 +12,10 @@ ghost use Rattle.fit_record.specs.Records.{DataHeaderFits, DefinitionFits, Fits,
 ghost use Rattle.fit_profile.specs.Looks.{known};
 ghost use Rattle.fit_from_messages.specs.Parts.{slot_stands};
 ghost use Rattle.fit_writer.specs.Reading.{values_by};
-ghost use Rattle.fit_writer.specs.Written.{SaysSame};
+ghost use Rattle.fit_writer.specs.Written.{SaysSame, with_local};
 ghost use Rattle.fit_writer.specs.inner.Files.{IsNextFile};
 ghost use Rattle.fit_writer.specs.inner.OpenFiles.{IsGoodOpenFile, IsHalfPut, IsUnput, current_of, current_with};
-ghost use Rattle.fit_writer.specs.inner.Places.{IsLone, form_of, with_local};
+ghost use Rattle.fit_writer.specs.inner.Places.{IsLone, form_of};
 ghost use Rattle.fit_writer.specs.inner.Spelled.{IsSpelled};
 
 use crate::Refusal;
@@ -188,7 +188,7 @@ impl OpenFile {
             (Data (values_by (form_of lone.entry) block.now front.local front.offset)
             ∷ Define (with_local lone.entry.definition front.local) ∷ self.old.stream)) }
         ensures good { IsGoodOpenFile self.new }
-        ensures err { IfErr result (IsHalfPut self.old self.new) }
+        ensures err { IfErr result (IsHalfPut self.old self.new lone.entry.definition) }
         ensures refused { IfErr result (IsUnput
             (Data (values_by (form_of lone.entry) block.now front.local front.offset)
             ∷ Define (with_local lone.entry.definition front.local) ∷ self.old.stream)) }

@@ -1,8 +1,9 @@
 //! Which local message type a message gets.
-ghost use Rattle.std.specs.Prelude.{◌≡◌, ◌↔◌, ◌<◌, ◌≤◌, ℕ, IfSome, IsNone, IsTrue, Some, true, false};
+ghost use Rattle.std.specs.Prelude.{◌≡◌, ◌↔◌, ◌<◌, ◌≤◌, ℕ, IfSome, IsNone, IsTrue, None, Some, true, false};
 ghost use Rattle.std.specs.Global.{Global};
 ghost use Rattle.fit_record.specs.declared.environment.Defined.{Defined};
-ghost use Rattle.fit_record.specs.Environment.{dev_defs};
+ghost use Rattle.fit_record.specs.Environment.{defined_at, dev_defs};
+ghost use Rattle.fit_profile.specs.Looks.{known};
 ghost use Rattle.fit_writer.specs.Written.{SaysSame};
 ghost use Rattle.fit_writer.specs.inner.Places.{IsLone, form_of};
 
@@ -122,7 +123,10 @@ pub(crate) fn find_same(stream: &Stream, lone: &LoneDefinition<'_>, limit: u8) -
 pub(crate) fn free_place(stream: &Stream, turns: &Turns, own: u8, limit: u8) -> u8
     requires some { 0 < limit }
     requires within { limit ≤ 16 }
-    ensures { result < limit }
+    ensures within { result < limit }
+    ensures own { own < limit → defined_at (known stream.now) own ≡ None → result ≡ own }
+    ensures free { (k : ℕ) → k < limit → defined_at (known stream.now) k ≡ None
+        → defined_at (known stream.now) result ≡ None }
 {
     if own < limit && stream.env().defined(own).is_none() {
         return own;

@@ -9,7 +9,7 @@ ghost use Rattle.fit_writer.specs.Reading as saying;
 ghost use Rattle.fit_writer.specs.Reading.{dated};
 ghost use Rattle.fit_writer.specs.inner.OpenFiles.{IsGoodOpenFile, IsHalfPut, current_of};
 ghost use Rattle.fit_writer.specs.inner.Places.{IsLone, form_of};
-ghost use Rattle.fit_writer.specs.inner.Puts.{IsChosen, IsKeptOffset, IsPutInto, IsToldIn, IsUnchosen, IsRefusedPut, IsUnplaced, limit_of};
+ghost use Rattle.fit_writer.specs.inner.Puts.{IsChosen, IsHalfPutInto, IsKeptOffset, IsPutInto, IsToldIn, IsUnchosen, IsRefusedPut, IsUnplaced, limit_of};
 
 use crate::Refusal;
 use crate::file::OpenFile;
@@ -151,7 +151,7 @@ fn put_needed(
     requires offset { IfSome offset (λ o. o < 32) }
     ensures ok { OnOk result (IsToldIn file.old file.new (form_of lone.entry) block.now offset) }
     ensures good { IsGoodOpenFile file.new }
-    ensures err { IfErr result (IsHalfPut file.old file.new) }
+    ensures err { IfErr result (IsHalfPut file.old file.new lone.entry.definition) }
     ensures refused { IfErr result
         (IsUnplaced file.old.stream (form_of lone.entry) block.now offset) }
 {
@@ -197,7 +197,8 @@ pub(crate) fn put_message(
     requires lone { IsLone lone }
     ensures ok { OnOk result (IsPutInto file.old file.new (form_of lone.entry) block.now) }
     ensures good { IsGoodOpenFile file.new }
-    ensures err { IfErr result (IsHalfPut file.old file.new) }
+    ensures err { IfErr result
+        (IsHalfPutInto file.old file.new (form_of lone.entry) block.now) }
     ensures refused { IfErr result (IsRefusedPut file.old.stream (form_of lone.entry) block.now
         (why_no_message_at block.now lone.entry.slots)) }
 {

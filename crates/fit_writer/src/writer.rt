@@ -102,8 +102,9 @@ impl MessageWriter {
             (form_in definition.now) block.now) }
         ensures refused { IfErr result
             (IsMessageRefusal self.old.current definition.now block.now) }
-        // Where memory is refused, the definition message may have been put: then the next call finds it.
-        ensures unchanged { IfErr result (KeepsAll self.old self.new) }
+        // Where memory is refused, the definition message may have been put, which tells no message.
+        ensures unchanged { IfErr result
+            (KeepsAll self.old self.new (form_in definition.now) block.now) }
     {
         if !self.is_open {
             return Err(Refusal::NoFile);

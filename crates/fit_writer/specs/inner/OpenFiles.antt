@@ -9,7 +9,7 @@ use Rattle.fit_record.specs.declared.message.Record.TheVariants.{Define}
 use Rattle.fit_record.specs.Environment.{empty_environment}
 use Rattle.fit_record.specs.Files.{chain_limit}
 use Rattle.fit_record.specs.Records.{AllFit, records_bytes}
-use Rattle.fit_writer.specs.Written.{Current, Writing, data_length}
+use Rattle.fit_writer.specs.Written.{Current, Writing, data_length, with_local}
 use Rattle.fit_writer.specs.declared.file.OpenFile.{OpenFile}
 use Rattle.fit_writer.specs.declared.refusal.Refusal.{Refusal}
 use Rattle.fit_writer.specs.declared.refusal.Refusal.TheVariants.{NoMemory, TooLong}
@@ -45,7 +45,8 @@ IsUnput after TooLong = 2 ^ 32 ≤ data_length after
 IsUnput after NoMemory = Unit {0}
 IsUnput after _ = ⊥
 
--- Nothing has changed; or memory was refused after a definition message was put.
-abbrev pub IsHalfPut : OpenFile → OpenFile → Refusal → Type 0
-IsHalfPut old new NoMemory = (current_of new ≡ current_of old) ⊎ ((d : MessageDef Global) × (current_of new ≡ current_with old (Define d ∷ old.stream)))
-IsHalfPut old new _ = current_of new ≡ current_of old
+-- Nothing has changed; or memory was refused after this definition message was put, for some local message type.
+abbrev pub IsHalfPut : OpenFile → OpenFile → MessageDef Global → Refusal → Type 0
+IsHalfPut old new d NoMemory =
+    (current_of new ≡ current_of old) ⊎ ((local : ℕ) × (current_of new ≡ current_with old (Define (with_local d local) ∷ old.stream)))
+IsHalfPut old new d _ = current_of new ≡ current_of old

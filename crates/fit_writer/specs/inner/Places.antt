@@ -26,7 +26,3 @@ pub record IsLone (d : LoneDefinition) : Type 0 where
   pub many : length d.codes ≡ length (dev_defs d.definition.dev)
   pub slots_fit : SlotsFit (lone_layout d.definition d.codes) d.slots
   pub stand : list_all (entry_stands 1) (entries_of (length d.codes) d.dev.now) ≡ true
-
--- the same definition for another local message type
-abbrev pub with_local : MessageDef Global → ℕ → MessageDef Global
-with_local d local = record d { local = local }

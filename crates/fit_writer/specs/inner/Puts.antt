@@ -9,7 +9,9 @@ use Rattle.fit_record.specs.declared.message.Values.{Values}
 use Rattle.fit_record.specs.Faults.{or_else}
 use Rattle.fit_profile.specs.Times.{header_time, previous_time}
 use Rattle.fit_writer.specs.Reading.{Form, Reading, dated, header_time_in, fields_time, reading_after, reading_by, values_by}
-use Rattle.fit_writer.specs.Written.{IsPlaceRefusal, IsPut, KeepsOffset, SaysSame, data_length, with_definition}
+use Rattle.fit_profile.specs.Looks.{known}
+use Rattle.fit_record.specs.Environment.{defined_at, dev_defs}
+use Rattle.fit_writer.specs.Written.{IsPlaceRefusal, IsPut, KeepsOffset, PutsHalf, SaysSame, data_length, with_definition, with_local}
 use Rattle.fit_from_messages.specs.Parts.{offset_in}
 use Rattle.fit_from_messages.specs.declared.fault.BlockReason.{BlockReason}
 use Rattle.fit_writer.specs.declared.file.OpenFile.{OpenFile}
@@ -27,11 +29,11 @@ pub record LosesTime (f : Form) (block : List ℕ) (is_kept : Bool) (t : ℕ) : 
 abbrev pub IsChosen : Form → List ℕ → Bool → Form → Type 0
 IsChosen f block is_kept chosen =
     (((t : ℕ) → LosesTime f block is_kept t → ⊥) × (chosen ≡ f))
-    ⊎ ((t : ℕ) × LosesTime f block is_kept t × (t < 0xFFFFFFFF) × (chosen ≡ dated f))
+    ⊎ ((t : ℕ) × LosesTime f block is_kept t × (length f.definition.fields < 255) × (t < 0xFFFFFFFF) × (chosen ≡ dated f))
 
 abbrev pub IsUnchosen : Form → List ℕ → Bool → Refusal → Type 0
 IsUnchosen f block is_kept Full = (t : ℕ) × LosesTime f block is_kept t × (length f.definition.fields ≡ 255)
-IsUnchosen f block is_kept Time = LosesTime f block is_kept 0xFFFFFFFF
+IsUnchosen f block is_kept Time = LosesTime f block is_kept 0xFFFFFFFF × (length f.definition.fields < 255)
 IsUnchosen f block is_kept NoMemory = Unit {0}
 IsUnchosen f block is_kept _ = ⊥
 
@@ -44,6 +46,16 @@ told_after before f block offset =
 abbrev pub limit_of : Option ℕ → ℕ
 limit_of offset = if is_some offset then 4 else 16
 
+-- The local message type of a message of this form below a limit, and its definition message, if need be.
+pub record IsSeated (before : List (Record Global)) (f : Form) (limit : ℕ) (defined : Option (MessageDef Global)) (local : ℕ) : Type 0 where
+  pub own : (p : Defined Global) → f.definition.local < limit → SaysSame before f.definition.local f p → local ≡ f.definition.local
+  pub fresh : (d : MessageDef Global) → defined ≡ Some d → (k : ℕ) (p : Defined Global) → k < limit → SaysSame before k f p → ⊥
+  pub defines : (d : MessageDef Global) → defined ≡ Some d → (d ≡ with_local f.definition local) × (dev_defs d.dev ≡ [])
+  pub own_free : (d : MessageDef Global) → defined ≡ Some d → f.definition.local < limit → defined_at (known before) f.definition.local ≡ None
+      → local ≡ f.definition.local
+  pub free : (d : MessageDef Global) → defined ≡ Some d → (k : ℕ) → k < limit → defined_at (known before) k ≡ None
+      → defined_at (known before) local ≡ None
+
 -- It was put, if need be with its definition message.
 pub record IsTold (before : List (Record Global)) (f : Form) (block : List ℕ) (offset : Option ℕ) (after : List (Record Global)) : Type 0 where
   pub defined : Option (MessageDef Global)
@@ -51,8 +63,7 @@ pub record IsTold (before : List (Record Global)) (f : Form) (block : List ℕ) 
   pub records : after ≡ Data message ∷ with_definition defined before
   pub told : reading_after (with_definition defined before) message ≡ Some (told_after before f block offset)
   pub offset_is : message.offset ≡ offset
-  pub own : (p : Defined Global) → f.definition.local < limit_of offset → SaysSame before f.definition.local f p → message.local ≡ f.definition.local
-  pub fresh : (d : MessageDef Global) → defined ≡ Some d → (local : ℕ) (p : Defined Global) → local < limit_of offset → SaysSame before local f p → ⊥
+  pub seated : IsSeated before f (limit_of offset) defined message.local
 
 abbrev pub IsUnplaced : List (Record Global) → Form → List ℕ → Option ℕ → Refusal → Type 0
 IsUnplaced before f block offset Described =
@@ -66,6 +77,12 @@ IsUnplaced before f block offset _ = ⊥
 abbrev pub IsToldIn : OpenFile → OpenFile → Form → List ℕ → Option ℕ → Type 0
 IsToldIn old new f block offset =
     (after : List (Record Global)) × IsTold old.stream f block offset after × (current_of new ≡ current_with old after)
+
+-- Of the message nothing was put, or where memory was refused the definition message alone that it needs.
+abbrev pub IsHalfPutInto : OpenFile → OpenFile → Form → List ℕ → Refusal → Type 0
+IsHalfPutInto old new f block NoMemory =
+    (current_of new ≡ current_of old) ⊎ ((after : List (Record Global)) × PutsHalf old.stream after f block × (current_of new ≡ current_with old after))
+IsHalfPutInto old new f block _ = current_of new ≡ current_of old
 
 abbrev pub IsPutInto : OpenFile → OpenFile → Form → List ℕ → Type 0
 IsPutInto old new f block = (after : List (Record Global)) × IsPut old.stream after f block × (current_of new ≡ current_with old after)
