@@ -12,7 +12,7 @@ fn first_length(blocks: &[u8]) -> usize {
     blocks[0] as usize + 256 * blocks[1] as usize + 65536 * blocks[2] as usize
 }
 
-/// Which messages are put, and whether definitions are put where they come.
+/// Which messages are put, and whether definitions are put where they come. Those with developer fields always are.
 #[derive(Clone, Copy, Drop)]
 struct Choice {
     /// Each message of which this divides the number.
@@ -44,13 +44,34 @@ impl<'a> Given<'a> {
             return false;
         }
         self.messages += 1;
-        self.messages % step == 0
+        self.messages % step == 0 || self.describes(block)
+    }
+
+    /// Whether a message says what developer fields are, which are read by it.
+    fn describes(&self, block: &[u8]) -> bool {
+        let definition = self.definition(block);
+        let global = definition[32] as u16 + 256 * definition[33] as u16;
+        global == 206 || global == 207
     }
 
     /// The block of the definition of a message.
     fn definition(&self, block: &[u8]) -> &'a [u8] {
         self.definitions[block[6] as usize % 16]
     }
+}
+
+/// Puts a message. With developer fields of which no definition is there, it is put after its own.
+fn put_message(
+    writer: &mut MessageWriter,
+    definition: &[u8],
+    block: &[u8],
+) -> Result<(), Refusal> {
+    let put = writer.put_message(definition, block);
+    if put != Err(Refusal::Described) {
+        return put;
+    }
+    writer.put_definition(definition)?;
+    writer.put_message(definition, block)
 }
 
 /// Puts one block, if it is chosen.
@@ -63,8 +84,8 @@ fn put<'a>(
     let is_chosen = given.is_chosen(block, choice.step);
     match block[4] {
         1 => writer.begin_file(block),
-        2 if choice.defines => writer.put_definition(block),
-        3 if is_chosen => writer.put_message(given.definition(block), block),
+        2 if choice.defines || block[36] != 0 => writer.put_definition(block),
+        3 if is_chosen => put_message(writer, given.definition(block), block),
         _ => Ok(()),
     }
 }
@@ -108,8 +129,8 @@ fn next_message<'a>(
 
 /// Asserts that two messages have one time, and one global message number.
 fn is_same(rt: &impl Abort, found: (&[u8], &[u8]), wanted: (&[u8], &[u8])) {
-    equal(rt, &found.1[12..16], &wanted.1[12..16]);
-    equal(rt, &found.0[32..34], &wanted.0[32..34]);
+    equal(rt, &&found.1[12..16], &&wanted.1[12..16]);
+    equal(rt, &&found.0[32..34], &&wanted.0[32..34]);
 }
 
 /// Asserts that what was written tells the times and numbers of the messages that were chosen.
