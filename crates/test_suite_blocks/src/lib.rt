@@ -8,4 +8,6 @@ mod back;
 #[cfg(test)]
 mod put;
 #[cfg(test)]
+mod put_alone;
+#[cfg(test)]
 mod refused;

@@ -8,7 +8,7 @@ use std::process::Abort;
 use test_known::files;
 
 /// The length of the first of some blocks.
-fn first_length(blocks: &[u8]) -> usize {
+pub(crate) fn first_length(blocks: &[u8]) -> usize {
     blocks[0] as usize + 256 * blocks[1] as usize + 65536 * blocks[2] as usize
 }
 
