@@ -182,6 +182,7 @@ impl OpenFile {
     ) -> Result<(), Refusal>
         requires good { IsGoodOpenFile self.old }
         requires lone { IsLone lone }
+        requires plain { lone.codes ≡ [] }
         requires front { DataHeaderFits front.local front.offset }
         requires stand { list_all (slot_stands block.now) lone.slots ≡ true }
         ensures ok { OnOk result (current_of self.new ≡ current_with self.old

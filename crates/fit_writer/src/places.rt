@@ -118,6 +118,13 @@ pub(crate) fn find_same(stream: &Stream, lone: &LoneDefinition<'_>, limit: u8) -
     None
 }
 
+/// Whether a local message type has no definition.
+fn is_free(stream: &Stream, local: u8) -> bool
+    ensures { IsTrue result ↔ (defined_at (known stream.now) local ≡ None) }
+{
+    stream.env().defined(local).is_none()
+}
+
 /// The local message type below a limit for a definition that has none: its own or the first where they are free, else the one least
 /// lately used.
 pub(crate) fn free_place(stream: &Stream, turns: &Turns, own: u8, limit: u8) -> u8
@@ -128,11 +135,11 @@ pub(crate) fn free_place(stream: &Stream, turns: &Turns, own: u8, limit: u8) -> 
     ensures free { (k : ℕ) → k < limit → defined_at (known stream.now) k ≡ None
         → defined_at (known stream.now) result ≡ None }
 {
-    if own < limit && stream.env().defined(own).is_none() {
+    if own < limit && is_free(stream, own) {
         return own;
     }
     for local in 0..limit {
-        if stream.env().defined(local).is_none() {
+        if is_free(stream, local) {
             return local;
         }
     }

@@ -61,11 +61,7 @@ impl<'a> Given<'a> {
 }
 
 /// Puts a message. With developer fields of which no definition is there, it is put after its own.
-fn put_message(
-    writer: &mut MessageWriter,
-    definition: &[u8],
-    block: &[u8],
-) -> Result<(), Refusal> {
+fn put_message(writer: &mut MessageWriter, definition: &[u8], block: &[u8]) -> Result<(), Refusal> {
     let put = writer.put_message(definition, block);
     if put != Err(Refusal::Described) {
         return put;

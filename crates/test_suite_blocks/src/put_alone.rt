@@ -11,7 +11,8 @@ use std::process::Abort;
 use test_known::{BOTH_ORDERS, DEVELOPER_FIELD};
 
 /// The second message by itself: a timestamp comes before its other fields, with the highest byte first as they have it.
-const SECOND_ALONE: [u8; 41] = *b"\x0E\x20\0\0\x19\0\0\0.FIT\x5D\xE3\x41\0\x01\0\x14\x03\xFD\x04\x86\x02\x02\x84\x08\x03\x0D\
+const SECOND_ALONE: [u8; 41] =
+    *b"\x0E\x20\0\0\x19\0\0\0.FIT\x5D\xE3\x41\0\x01\0\x14\x03\xFD\x04\x86\x02\x02\x84\x08\x03\x0D\
     \x01\x3B\x9A\xCA\x22\x09\xC4\x64\0\x10\xD7\x19";
 
 /// Puts the second message of some blocks like those of `BOTH_ORDERS`.
