@@ -21,6 +21,7 @@ ghost use Rattle.fit_writer.specs.inner.Spelled.{IsSpelled};
 use crate::Refusal;
 use crate::chain::Chain;
 use crate::data::{add_message, add_record, has_room};
+use crate::forms::with_local;
 use crate::places::Turns;
 use fit_base::Order;
 use fit_encode::spell;
@@ -176,32 +177,29 @@ impl OpenFile {
     /// have been put.
     pub(crate) fn put_both(
         &mut self,
+        alloc: Global,
         front: MessageFront,
-        lone: LoneDefinition<'_>,
+        lone: &LoneDefinition<'_>,
         block: &[u8],
     ) -> Result<(), Refusal>
         requires good { IsGoodOpenFile self.old }
-        requires lone { IsLone lone }
-        requires plain { lone.codes ≡ [] }
+        requires lone { IsLone lone.now }
+        requires plain { lone.now.codes ≡ [] }
         requires front { DataHeaderFits front.local front.offset }
-        requires stand { list_all (slot_stands block.now) lone.slots ≡ true }
+        requires stand { list_all (slot_stands block.now) lone.now.slots ≡ true }
         ensures ok { OnOk result (current_of self.new ≡ current_with self.old
-            (Data (values_by (form_of lone.entry) block.now front.local front.offset)
-            ∷ Define (with_local lone.entry.definition front.local) ∷ self.old.stream)) }
+            (Data (values_by (form_of lone.now) block.now front.local front.offset)
+            ∷ Define (with_local lone.now.definition front.local) ∷ self.old.stream)) }
         ensures good { IsGoodOpenFile self.new }
-        ensures err { IfErr result (IsHalfPut self.old self.new lone.entry.definition) }
+        ensures err { IfErr result (IsHalfPut self.old self.new lone.now.definition) }
         ensures refused { IfErr result (IsUnput
-            (Data (values_by (form_of lone.entry) block.now front.local front.offset)
-            ∷ Define (with_local lone.entry.definition front.local) ∷ self.old.stream)) }
+            (Data (values_by (form_of lone.now) block.now front.local front.offset)
+            ∷ Define (with_local lone.now.definition front.local) ∷ self.old.stream)) }
     {
         let order = lone.definition.order;
-        let end = spell_message(&mut self.message, front, order, &lone, block)?;
+        let end = spell_message(&mut self.message, front, order, lone, block)?;
         let (bytes, _) = self.message.as_slice().split_at(end);
-        let LoneDefinition { definition, .. } = lone;
-        let record_ = Record::Define(MessageDef {
-            local: front.local,
-            ..definition
-        });
+        let record_ = Record::Define(with_local(alloc, &lone.definition, front.local)?);
         spell(&mut self.defining, self.stream.env(), &record_)?;
         let defining = self.defining.as_slice();
         if !has_room(self.data.as_slice(), defining.len() + bytes.len()) {

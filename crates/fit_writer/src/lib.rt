@@ -4,6 +4,7 @@
 mod chain;
 mod data;
 mod file;
+mod forms;
 pub mod laws;
 mod names;
 mod places;

@@ -110,7 +110,7 @@ impl MessageWriter {
             return Err(Refusal::NoFile);
         }
         match lone_definition(self.alloc, definition) {
-            Ok(lone) => put_message(self.alloc, &mut self.file, lone, block),
+            Ok(lone) => put_message(self.alloc, &mut self.file, &lone, block),
             Err(Misfit::Block(reason)) => Err(Refusal::Block(reason)),
             Err(Misfit::NoMemory) => Err(Refusal::NoMemory),
         }

@@ -1,5 +1,5 @@
 use Rattle.std.proofs.Common.{◌≡◌, ◌∷◌, ◌++◌, drop}
-use Rattle.fit_writer.proofs.put.with_timestamp.Given as goal
+use Rattle.fit_writer.proofs.forms.with_timestamp.Given as goal
 
 -- with the others it is all
 abbrev pub invariant-loop-field : goal.invariant-loop-field
