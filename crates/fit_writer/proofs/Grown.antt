@@ -1,5 +1,7 @@
 -- The bytes of a file with one record more.
-use Rattle.std.proofs.Common.{◌≡◌, ◌∙◌, ℕ, ◌+◌, ◌<◌, ◌^◌, List, [], ◌∷◌, ◌++◌, length, reverse, refl, sym, ap, subst, arith}
+use Rattle.std.proofs.Common.{◌≡◌, ◌∙◌, ℕ, ◌+◌, ◌<◌, ◌^◌, List, [], ◌∷◌, ◌++◌, length, reverse, refl, sym, ap, subst, arith, ◌≤◌, ◌⊎◌, inl, inr, Bool, true, false}
+use Rattle.std.specs.Prelude.{IsTrue}
+use Rattle.std.proofs.lemmas.Bool.{cases_lt}
 use Rattle.std.proofs.lemmas.List.{append-nil, length-append, reverse-append, reverse-reverse}
 use Rattle.std.specs.Global.{Global}
 use Rattle.fit_record.proofs.RecordLists.{all_fit-append, records_bytes-append}
@@ -38,3 +40,23 @@ are_more s r section bytes are fits is room = record {
   fit = subst (AllFit empty_environment) (sym (last s r))
       (all_fit-append empty_environment (reverse s) (r ∷ []) are.fit (subst (λ (e : Environment Global). Fits e r) (known_is s) fits, tt));
 }
+
+-- with two records more
+pub grown_twice : (s : List (Record Global)) (a b : Record Global) (section first second : List ℕ) → AreData section s → first ≡ record_bytes (known s) a
+    → second ≡ record_bytes (known (a ∷ s)) b → data_length (b ∷ a ∷ s) ≡ length section + (length first + length second)
+grown_twice s a b section first second are is after =
+    let one : section ++ first ≡ records_bytes empty_environment (reverse (a ∷ s)) = grown s a section first are.data_are is in
+    let two : (section ++ first) ++ second ≡ records_bytes empty_environment (reverse (b ∷ a ∷ s)) = grown (a ∷ s) b (section ++ first) second one after in
+    omega (arith, ap length two, length-append (section ++ first) second, length-append section first)
+
+-- ---- room
+
+pub no_room : (b : Bool) (n m : ℕ) → b ≡ false → (n < m → IsTrue b) → m ≤ n
+no_room b n m is has = go (cases_lt n m)
+  where
+    go : (n < m) ⊎ (m ≤ n) → m ≤ n
+    go (inl less) = let t : b ≡ true = has less in absurd (cc (sym is ∙ t))
+    go (inr le) = le
+
+pub too_long : (b : Bool) (n m : ℕ) → n ≡ m → b ≡ false → (m < 2 ^ 32 → IsTrue b) → 2 ^ 32 ≤ n
+too_long b n m size is has = omega (arith, size, no_room b m (2 ^ 32) is has)

@@ -1,5 +1,5 @@
 -- Names and units of developer fields.
-use Rattle.std.proofs.Common.{◌≡◌, ◌∙◌, ℕ, zero, suc, ◌+◌, ◌-◌, ◌<◌, ◌≤◌, List, [], ◌∷◌, length, map, take, drop, refl, sym, ap, ap₂, subst, arith}
+use Rattle.std.proofs.Common.{◌≡◌, ◌∙◌, ℕ, zero, suc, ◌+◌, ◌-◌, ◌<◌, ◌≤◌, List, [], ◌∷◌, length, map, take, drop, refl, sym, ap, ap₂, subst, arith, add-one}
 use Rattle.std.specs.Prelude.{Option, Some, None, slice_get, option_and_then}
 use Rattle.fit_profile.specs.Described.{Naming}
 use Rattle.std.proofs.lemmas.List.{length-map}
@@ -13,7 +13,7 @@ named_there t n name unit = ap₂ (λ (a b : Option (List ℕ)). record { name =
 
 -- One more naming is that of its entry, where the one at the place has that name and unit.
 one_more : (namings others : List Naming) (n : ℕ) (x : Naming) (rest : List Naming) → n < length namings → drop n others ≡ x ∷ rest
-    → take n namings ≡ take n others → HasNaming namings n x → take (n + 1) namings ≡ take (n + 1) others
+    → take n namings ≡ take n others → HasNaming namings n x → take (suc n) namings ≡ take (suc n) others
 one_more [] others n x rest less is first has = absurd (omega (arith, less))
 one_more (t ∷ namings) [] zero x rest less is first has = cc
 one_more (t ∷ namings) [] (suc n) x rest less is first has = cc
@@ -43,21 +43,25 @@ drop_map zero es = refl
 drop_map (suc n) [] = refl
 drop_map (suc n) (e ∷ es) = drop_map n es
 
+drop_after : {X : Type 0} (n : ℕ) (xs ys : List X) (x : X) → drop n xs ≡ x ∷ ys → drop (suc n) xs ≡ ys
+drop_after zero [] ys x is = cc
+drop_after zero (y ∷ xs) ys x is = cc
+drop_after (suc n) [] ys x is = cc
+drop_after (suc n) (y ∷ xs) ys x is = drop_after n xs ys x is
+
 pub drop_next : {X : Type 0} (n : ℕ) (xs ys : List X) (x : X) → drop n xs ≡ x ∷ ys → drop (n + 1) xs ≡ ys
-drop_next zero [] ys x is = cc
-drop_next zero (y ∷ xs) ys x is = cc
-drop_next (suc n) [] ys x is = cc
-drop_next (suc n) (y ∷ xs) ys x is = drop_next n xs ys x is
+drop_next n xs ys x is = rw (add-one n) (drop_after n xs ys x is)
 
 pub named_next : (namings : List Naming) (all others : List (List ℕ)) (n : ℕ) (entry : List ℕ) → n < length namings → drop n all ≡ entry ∷ others
     → take n namings ≡ take n (map entry_naming all) → HasNaming namings n (entry_naming entry) → take (n + 1) namings ≡ take (n + 1) (map entry_naming all)
 named_next namings all others n entry less is first has =
-    one_more namings (map entry_naming all) n (entry_naming entry) (map entry_naming others) less (drop_map n all ∙ ap (map entry_naming) is) first has
+    rw (add-one n)
+    (one_more namings (map entry_naming all) n (entry_naming entry) (map entry_naming others) less (drop_map n all ∙ ap (map entry_naming) is) first has)
 
 pub not_named : (namings : List Naming) (all others : List (List ℕ)) (n : ℕ) (entry : List ℕ) → drop n all ≡ entry ∷ others
     → (HasNaming namings n (entry_naming entry) → ⊥) → namings ≡ map entry_naming all → ⊥
-not_named namings all others n entry is no same =
-    no (has_all namings (map entry_naming all) n (entry_naming entry) (map entry_naming others) (drop_map n all ∙ ap (map entry_naming) is) same)
+not_named namings all others n entry is never same =
+    never (has_all namings (map entry_naming all) n (entry_naming entry) (map entry_naming others) (drop_map n all ∙ ap (map entry_naming) is) same)
 
 take_whole : {X : Type 0} (xs : List X) (n : ℕ) → length xs ≡ n → take n xs ≡ xs
 take_whole [] zero is = refl

@@ -1,10 +1,11 @@
 -- The time of a message's own field.
 use Rattle.std.proofs.Common.{◌≡◌, ◌∙◌, ℕ, zero, suc, ◌+◌, ◌*◌, ◌<◌, ◌≤◌, Bool, true, false, cond}
-use Rattle.std.proofs.Common.{List, [], ◌∷◌, ◌++◌, length, map, take, drop, get_or, refl, sym, ap, subst, arith}
+use Rattle.std.proofs.Common.{List, [], ◌∷◌, ◌++◌, length, map, take, drop, get_or, refl, sym, ap, subst, arith, add-one}
 use Rattle.std.specs.Global.{Global}
 use Rattle.std.specs.List.{list_all}
 use Rattle.std.specs.Prelude.{◌==◌, Option, Some, None, option_and_then}
 use Rattle.std.proofs.lemmas.Bool.{and_parts}
+use Rattle.std.proofs.lemmas.Bool.Decides.{nat_tests}
 use Rattle.fit_base.specs.BaseTypes.{item_width}
 use Rattle.fit_base.specs.declared.items.Items.{Items}
 use Rattle.fit_record.specs.declared.definition.FieldDef.{FieldDef}
@@ -27,24 +28,31 @@ pub first_is : (block : List ℕ) (fields : List FieldDef) (slots : List Slot) �
     (first_field fields (map (items_read block) (take (length fields) slots)) 253) ≡ first_time block fields slots
 first_is block [] slots fit = refl
 first_is block (f ∷ fields) [] fit = absurd fit
-first_is block (f ∷ fields) (s ∷ slots) fit = go (f.number == 253)
+first_is block (f ∷ fields) (s ∷ slots) fit = go (first_is block fields slots fit.2) (f.number == 253)
   where
-    go : (b : Bool) → option_and_then (λ (f : FieldDef × Items Global). time_in_field f.0 f.1)
+    go : option_and_then (λ (f : FieldDef × Items Global). time_in_field f.0 f.1)
+        (first_field fields (map (items_read block) (take (length fields) slots)) 253) ≡ first_time block fields slots → (b : Bool) → option_and_then (λ (f : FieldDef × Items Global). time_in_field f.0 f.1)
         (cond b (Some (f, items_read block s)) (first_field fields (map (items_read block) (take (length fields) slots)) 253))
         ≡ cond b (slot_time block f s) (first_time block fields slots)
-    go true = refl
-    go false = first_is block fields slots fit.2
+    go rest true = refl
+    go rest false = rest
 
 -- ---- a walk over the fields
+
+walk : (block : List ℕ) (fields : List FieldDef) (slots : List Slot) (n : ℕ) (d : FieldDef) (e : Slot) → FieldsFit fields slots → n < length fields
+    → first_time block (drop n fields) (drop n slots)
+    ≡ cond ((get_or fields n d).number == 253) (slot_time block (get_or fields n d) (get_or slots n e))
+    (first_time block (drop (suc n) fields) (drop (suc n) slots))
+walk block [] slots n d e fit less = absurd (omega (arith, less))
+walk block (f ∷ fields) [] n d e fit less = absurd fit
+walk block (f ∷ fields) (s ∷ slots) zero d e fit less = refl
+walk block (f ∷ fields) (s ∷ slots) (suc n) d e fit less = walk block fields slots n d e fit.2 (omega (arith, less))
 
 pub walked : (block : List ℕ) (fields : List FieldDef) (slots : List Slot) (n : ℕ) (d : FieldDef) (e : Slot) → FieldsFit fields slots → n < length fields
     → first_time block (drop n fields) (drop n slots)
     ≡ cond ((get_or fields n d).number == 253) (slot_time block (get_or fields n d) (get_or slots n e))
     (first_time block (drop (n + 1) fields) (drop (n + 1) slots))
-walked block [] slots n d e fit less = absurd (omega (arith, less))
-walked block (f ∷ fields) [] n d e fit less = absurd fit
-walked block (f ∷ fields) (s ∷ slots) zero d e fit less = refl
-walked block (f ∷ fields) (s ∷ slots) (suc n) d e fit less = walked block fields slots n d e fit.2 (omega (arith, less))
+walked block fields slots n d e fit less = rw (add-one n) (walk block fields slots n d e fit less)
 
 pub at_place : (fields : List FieldDef) (slots : List Slot) (n : ℕ) (d : FieldDef) (e : Slot) → FieldsFit fields slots → n < length fields
     → (n < length slots) × ((get_or slots n e).width ≡ item_width (get_or fields n d).code (get_or fields n d).size)
@@ -70,3 +78,6 @@ over block (f ∷ fields) [] (suc n) long = no_slots (drop n fields)
     no_slots [] = refl
     no_slots (f ∷ fs) = refl
 over block (f ∷ fields) (s ∷ slots) (suc n) long = over block fields slots n (omega (arith, long))
+
+pub not_timestamp : (n : ℕ) → (n ≡ 253 → ⊥) → (n == 253) ≡ false
+not_timestamp n other = grind (arith, nat_tests)

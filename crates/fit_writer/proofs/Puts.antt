@@ -1,7 +1,7 @@
 -- Messages that are put, as their readers are told them, and why others aren't put.
 use Rattle.std.proofs.Common.{◌≡◌, ◌∙◌, ◌⊎◌, ℕ, ◌<◌, ◌≤◌, ◌^◌, inl, inr, Bool, true, false}
 use Rattle.std.proofs.Common.{cond, List, [], ◌∷◌, length, map, drop, take, refl, sym, ap, subst, arith}
-use Rattle.std.proofs.lemmas.Bool.{ltb-false, ltb-true}
+use Rattle.std.proofs.lemmas.Bool.{eqb-true, ltb-false, ltb-true}
 use Rattle.std.specs.Global.{Global}
 use Rattle.std.specs.Prelude.{Option, Some, None, IfSome, IsSomeAnd, is_some, nat_lt, nat_le, not, ◌&&◌, ◌==◌, unwrap_or}
 use Rattle.fit_base.specs.declared.items.Items.{Items}
@@ -17,7 +17,7 @@ use Rattle.fit_profile.specs.Looks.{known}
 use Rattle.fit_profile.specs.Times.{header_time, previous_time, valid_time}
 use Rattle.fit_from_messages.specs.Parts.{byte_at, entries_of, number_read, offset_in}
 use Rattle.fit_from_messages.specs.declared.fault.BlockReason.{BlockReason}
-use Rattle.fit_writer.proofs.Reads.{none_long, read_there, same_after, says_own}
+use Rattle.fit_writer.proofs.ReadThere.{none_long, read_there, same_after, says_own}
 use Rattle.fit_writer.specs.Reading.{Form, Reading, IsReadAs, dated, header_time_in}
 use Rattle.fit_writer.specs.Reading.{entry_naming, fields_time, reading_after, said_reading, timestamp_field, values_by}
 use Rattle.fit_writer.specs.Written.{CanName, IsNeeded, IsPlaced, IsPlaceRefusal, IsPut, KeepsOffset, NeedsTimestamp, SaysSame, data_length, with_definition, with_local}
@@ -52,7 +52,7 @@ told_known s local f block offset same own = record {
   };
 }
 
-no_namings : (codes entries : List ℕ) → codes ≡ [] → map entry_naming (entries_of (length codes) entries) ≡ []
+pub no_namings : (codes entries : List ℕ) → codes ≡ [] → map entry_naming (entries_of (length codes) entries) ≡ []
 no_namings codes entries none = ap (λ (c : List ℕ). map entry_naming (entries_of (length c) entries)) none
 
 pub told_both : (s : List (Record Global)) (local : ℕ) (f : Form) (block entries : List ℕ) (offset : Option ℕ) → local < 16 → dev_defs f.definition.dev ≡ []
@@ -80,6 +80,22 @@ told_both s local f block entries offset few dev codes namings none own free = r
   where
     some_is : (a b : MessageDef Global) → Some a ≡ Some b → a ≡ b
     some_is a b is = cc
+
+some_same : (a b : ℕ) → Some a ≡ Some b → a ≡ b
+some_same a b is = cc
+
+pub own_found : (s : List (Record Global)) (f : Form) (found : Option ℕ) (local limit : ℕ) (offset : Option ℕ) → found ≡ Some local
+    → limit ≡ limit_of offset
+    → ((p : Defined Global) → f.definition.local < limit → SaysSame s f.definition.local f p → found ≡ Some f.definition.local)
+    → (p : Defined Global) → f.definition.local < limit_of offset → SaysSame s f.definition.local f p → local ≡ f.definition.local
+own_found s f found local limit offset is same own p less says =
+    some_same local f.definition.local (sym is ∙ own p (subst (λ (n : ℕ). f.definition.local < n) (sym same) less) says)
+
+pub under : (n limit : ℕ) (offset : Option ℕ) → limit ≡ limit_of offset → n < limit_of offset → n < limit
+under n limit offset is less = subst (λ (k : ℕ). n < k) (sym is) less
+
+pub is_none : (codes : List ℕ) (b : Bool) → b ≡ (length codes == 0) → b ≡ true → codes ≡ []
+is_none codes b is empty = none_long codes (eqb-true (length codes) 0 (sym is ∙ empty))
 
 -- why it wasn't
 pub unplaced : (s : List (Record Global)) (f : Form) (block : List ℕ) (offset : Option ℕ) (after : List (Record Global)) (why : Refusal)
@@ -168,7 +184,7 @@ is_needed s f g block offset kept (inr (t, loses, few, less, same)) = inr (t, ne
 pub refused_form : (s : List (Record Global)) (f : Form) (block : List ℕ) (offset : Option ℕ) (first : Option BlockReason) (why : Refusal) → first ≡ None
     → IsKeptOffset s block offset → IsUnchosen f block (is_some offset) why → IsRefusedPut s f block first why
 refused_form s f block offset first Full none kept (t, loses, many) = (none, (t, needs s f block offset t kept loses, many))
-refused_form s f block offset first Time none kept (loses, few) = (none, needs s f block offset 0xFFFFFFFF kept loses, few)
+refused_form s f block offset first Time none kept (loses, few) = (none, (needs s f block offset 0xFFFFFFFF kept loses, few))
 refused_form s f block offset first NoMemory none kept h = tt
 refused_form s f block offset first NoFile none kept h = absurd h
 refused_form s f block offset first (Block reason) none kept h = absurd h
@@ -190,8 +206,8 @@ offset_kept s block (Some o) kept k = sym kept.is
 offset_kept s block None kept k = absurd (kept.none refl k)
 
 no_offset : (s : List (Record Global)) (block : List ℕ) (offset : Option ℕ) → IsKeptOffset s block offset → (KeepsOffset s block → ⊥) → offset ≡ None
-no_offset s block (Some o) kept no = absurd (no (keeps s block (Some o) kept refl))
-no_offset s block None kept no = refl
+no_offset s block (Some o) kept lost = absurd (lost (keeps s block (Some o) kept refl))
+no_offset s block None kept lost = refl
 
 placed_as : (s : List (Record Global)) (g : Form) (block : List ℕ) (offset : Option ℕ) (defined : Option (MessageDef Global)) (local : ℕ)
     → IsKeptOffset s block offset → IsSeated s g (limit_of offset) defined local → IsPlaced s g block defined local
@@ -213,7 +229,7 @@ put_as s f g block offset after chosen kept told = record {
   records = told.records;
   told = told.told ∙ ap Some (same_told s f g block offset chosen kept);
   kept = λ k. told.offset_is ∙ offset_kept s block offset kept k;
-  without = λ no. told.offset_is ∙ no_offset s block offset kept no;
+  without = λ lost. told.offset_is ∙ no_offset s block offset kept lost;
   placed = placed_as s g block offset told.defined told.message.local kept told.seated;
 }
 
@@ -221,13 +237,13 @@ put_as s f g block offset after chosen kept told = record {
 pub refused_place : (s : List (Record Global)) (f g : Form) (block : List ℕ) (offset : Option ℕ) (first : Option BlockReason) (why : Refusal)
     → first ≡ None → (dev_defs f.definition.dev ≡ [] → g.codes ≡ []) → IsKeptOffset s block offset → IsChosen f block (is_some offset) g
     → IsUnplaced s g block offset why → IsRefusedPut s f block first why
-refused_place s f g block offset first Described none dev kept chosen (some, no) = (
+refused_place s f g block offset first Described none dev kept chosen (some, never) = (
   none,
   (
     g,
     is_needed s f g block offset kept chosen,
     λ empty. some (dev empty),
-    λ local p names same. no local p (within s block offset local kept names.0 names.1) same,
+    λ local p names same. never local p (within s block offset local kept names.0 names.1) same,
   ),
 )
 refused_place s f g block offset first TooLong none dev kept chosen (after, told, long) =

@@ -13,6 +13,7 @@ use Rattle.fit_record.specs.declared.file.FitFile.{FitFile}
 use Rattle.fit_record.specs.Environment.{empty_environment}
 use Rattle.fit_record.specs.Files.{chain_bytes, chain_limit, file_bytes}
 use Rattle.fit_record.specs.Records.{AllFit, records_bytes}
+use Rattle.fit_encode.proofs.Lengths.{some_file_byte}
 use Rattle.fit_encode.specs.Encoding.{file_of}
 use Rattle.fit_writer.specs.Written.{data_length}
 use Rattle.fit_writer.specs.inner.Files.{AreWholeFiles, IsNextFile}
@@ -62,3 +63,8 @@ next_plain old new h records n size fits is = (h, inl (λ zero. fits.sum (subst 
 pub next_summed : (old new : List (FitFile Global)) (h : Header) (records : List (Record Global)) (n : ℕ) → n ≡ data_length records → ZeroIsSum h n
     → new ≡ old ++ file_of (record h { sum = True }) (reverse records) ∷ [] → IsNextFile old new h records
 next_summed old new h records n size zero is = (record h { sum = True }, inr (subst (ZeroIsSum h) size zero, refl), is)
+
+-- files have bytes
+pub some_bytes : (files : List (FitFile Global)) → 0 < length files → 0 < length (chain_bytes files)
+some_bytes [] some = absurd (omega (arith, some))
+some_bytes (f ∷ files) some = omega (arith, some_file_byte f, length-append (file_bytes f) (chain_bytes files))

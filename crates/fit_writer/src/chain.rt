@@ -69,11 +69,13 @@ fn put_whole(bytes: &mut Vec<u8>, head: &[u8], section: &[u8]) -> Result<(), All
     ensures err { OnErr result (bytes.new.items ≡ bytes.old.items) }
 {
     let start = bytes.len();
-    let put = put_parts(bytes, head, section);
-    if put.is_err() {
-        bytes.truncate(start);
+    match put_parts(bytes, head, section) {
+        Ok(()) => Ok(()),
+        Err(fault) => {
+            bytes.truncate(start);
+            Err(fault)
+        }
     }
-    put
 }
 
 /// The same header with its checksum.

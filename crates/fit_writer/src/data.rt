@@ -41,11 +41,13 @@ pub(crate) fn add_record(
 {
     let start = section.len();
     section.extend_from_slice(bytes)?;
-    let taken = stream.take(record_);
-    if taken.is_err() {
-        section.truncate(start);
+    match stream.take(record_) {
+        Ok(()) => Ok(()),
+        Err(fault) => {
+            section.truncate(start);
+            Err(fault)
+        }
     }
-    taken
 }
 
 /// Puts the data message that these bytes are. Out of memory, nothing changes.
@@ -64,9 +66,11 @@ pub(crate) fn add_message(
 {
     let start = section.len();
     section.extend_from_slice(bytes)?;
-    let taken = stream.take_message(bytes);
-    if taken.is_err() {
-        section.truncate(start);
+    match stream.take_message(bytes) {
+        Ok(()) => Ok(()),
+        Err(fault) => {
+            section.truncate(start);
+            Err(fault)
+        }
     }
-    taken
 }

@@ -62,6 +62,20 @@ fn devs(definition: &MessageDef) -> &[DevDef]
     }
 }
 
+/// Whether two lists of developer fields are the same.
+fn same_devs(a: &[DevDef], b: &[DevDef]) -> bool
+    ensures { IsTrue result ↔ (a.now ≡ b.now) }
+{
+    a == b
+}
+
+/// Whether two lists of base type codes are the same.
+fn same_codes(a: &[u8], b: &[u8]) -> bool
+    ensures { IsTrue result ↔ (a.now ≡ b.now) }
+{
+    a == b
+}
+
 /// Whether messages of a definition in its place are read as those of another, but for names and units.
 fn is_same(p: &Defined, lone: &LoneDefinition<'_>) -> bool
     ensures { IsTrue result ↔ ((p.now.definition.global ≡ lone.now.definition.global)
@@ -69,13 +83,19 @@ fn is_same(p: &Defined, lone: &LoneDefinition<'_>) -> bool
         × (dev_defs p.now.definition.dev ≡ dev_defs lone.now.definition.dev)
         × (p.now.dev_codes ≡ lone.now.codes)) }
 {
-    p.definition.global == lone.definition.global
-        && same_fields(
-            p.definition.fields.as_slice(),
-            lone.definition.fields.as_slice(),
-        )
-        && devs(&p.definition) == devs(&lone.definition)
-        && p.dev_codes.as_slice() == lone.codes.as_slice()
+    if p.definition.global != lone.definition.global {
+        return false;
+    }
+    if !same_fields(
+        p.definition.fields.as_slice(),
+        lone.definition.fields.as_slice(),
+    ) {
+        return false;
+    }
+    if !same_devs(devs(&p.definition), devs(&lone.definition)) {
+        return false;
+    }
+    same_codes(p.dev_codes.as_slice(), lone.codes.as_slice())
 }
 
 /// Whether messages of a local message type are read as those of a definition.

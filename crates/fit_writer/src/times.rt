@@ -1,5 +1,5 @@
 //! The times that a message's block says.
-ghost use Rattle.std.specs.Prelude.{◌≡◌, ◌*◌, ℕ, List, None, length, true};
+ghost use Rattle.std.specs.Prelude.{◌≡◌, ◌*◌, ◌<◌, ℕ, List, None, length, true};
 ghost use Rattle.std.specs.List.{list_all};
 ghost use Rattle.fit_base.specs.BaseTypes.{item_width};
 ghost use Rattle.fit_profile.specs.Times.{field_time};
@@ -43,6 +43,7 @@ fn time_at(field: FieldDef, slot: Slot, block: &[u8]) -> Option<u32>
 
 /// The time of the first of some fields that is a timestamp, by where their items are.
 fn first_time(fields: &[FieldDef], slots: &[Slot], block: &[u8]) -> Option<u32>
+    requires few { length fields.now < 256 }
     requires stand { list_all (slot_stands block.now) slots.now ≡ true }
     requires fit { FieldsFit fields.now slots.now }
     ensures { result ≡ first_time block.now fields.now slots.now }
@@ -57,6 +58,7 @@ fn first_time(fields: &[FieldDef], slots: &[Slot], block: &[u8]) -> Option<u32>
 
 /// The time of a message's own field, by its definition and where the items are.
 pub(crate) fn own_time(definition: &MessageDef, slots: &[Slot], block: &[u8]) -> Option<u32>
+    requires few { length definition.now.fields < 256 }
     requires stand { list_all (slot_stands block.now) slots.now ≡ true }
     requires fit { (codes : List ℕ) × SlotsFit (lone_layout definition.now codes) slots.now }
     ensures { result ≡ field_time definition.now
