@@ -2,11 +2,12 @@
 ghost use Rattle.std.specs.Prelude.{◌≡◌, ◌↔◌, ◌<◌, ◌≤◌, ◌+◌, ◌++◌, ◌∷◌, ◌^◌, [], ℕ, IsTrue, List, IfErr, OnErr, OnOk, false, length, reverse};
 ghost use Rattle.std.specs.Global.{Global};
 ghost use Rattle.std.specs.Io.KnownBytes.{Appends};
+ghost use Rattle.std.specs.List.{AllByRecursion};
 ghost use Rattle.fit_base.specs.Numbers.{little_bytes};
 ghost use Rattle.fit_sum.specs.Checksum.{checksum};
 ghost use Rattle.fit_frame.specs.Header.{FormFits, HeaderFits, header_bytes};
 ghost use Rattle.fit_record.specs.Environment.{empty_environment};
-ghost use Rattle.fit_record.specs.Files.{chain_bytes, chain_limit};
+ghost use Rattle.fit_record.specs.Files.{IsWellFormed, chain_bytes, chain_limit};
 ghost use Rattle.fit_record.specs.Records.{AllFit, records_bytes};
 ghost use Rattle.fit_encode.specs.Encoding.{file_of};
 ghost use Rattle.fit_encode.specs.Faults.{StopsAt};
@@ -211,6 +212,7 @@ impl Chain {
         ensures ok { OnOk result (Appends (K.contents sink.old) (K.contents sink.new)
             (chain_bytes self.now)) }
         ensures works { OnOk result (K.has_failed sink.new ≡ false) }
+        ensures whole { AllByRecursion IsWellFormed self.now }
         ensures err { IfErr result (StopsAt (K.contents sink.old) (K.contents sink.new)
             (K.has_failed sink.new) (chain_bytes self.now)) }
     {
