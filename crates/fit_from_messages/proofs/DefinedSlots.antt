@@ -12,7 +12,7 @@ use Rattle.std.specs.List.{list_all}
 use Rattle.fit_base.specs.BaseTypes.{item_width}
 use Rattle.fit_base.specs.Numbers.{IsBytes}
 use Rattle.fit_record.proofs.FirstOfNumber.{dropped}
-use Rattle.fit_record.specs.Environment.{Environment, defined_at, defined_by, dev_code, dev_defs, learn}
+use Rattle.fit_record.specs.Environment.{Environment, defined_at, defined_by, dev_code, dev_defs, empty_environment, learn}
 use Rattle.fit_record.specs.declared.definition.DevDef.{DevDef}
 use Rattle.fit_record.specs.declared.definition.FieldDef.{FieldDef}
 use Rattle.fit_record.specs.Records.{DefinitionFits, dev_layout, layout}
@@ -29,14 +29,15 @@ use Rattle.fit_from_messages.specs.declared.slot.Slot.{Slot}
 use Rattle.fit_from_messages.specs.Parts.{block_entries, byte_at, counts_stand, definition_in, dev_entries, dev_field_count, dev_in, entries_begin}
 use Rattle.fit_from_messages.specs.Parts.{entries_of, entries_stand, entry_size, entry_stands, field_count, field_entries, field_in, number_read}
 use Rattle.fit_from_messages.specs.Parts.{says_dev, size_fits, slot_in, slots_in}
+use Rattle.fit_from_messages.specs.Alone.{codes_in, lone_layout}
 use Rattle.fit_from_messages.specs.SaysChain.{Begun, known_to, why_no_definition}
 use Rattle.fit_from_messages.specs.inner.Cutting.{is_small, left_of, widths_fit}
 use Rattle.fit_from_messages.specs.inner.Definitions.{IsReadable}
-use Rattle.fit_from_messages.specs.inner.Slots.{SlotsFit}
+use Rattle.fit_from_messages.specs.Slots.{SlotsFit}
 
 -- ---- the entries
 
-many_entries : (n : ℕ) (bytes : List ℕ) → length (entries_of n bytes) ≡ n
+pub many_entries : (n : ℕ) (bytes : List ℕ) → length (entries_of n bytes) ≡ n
 many_entries zero bytes = refl
 many_entries (suc n) bytes = ap suc (many_entries n (drop (number_read 2 0 bytes) bytes))
 
@@ -152,6 +153,35 @@ defined_slots e block r fit =
     (subst (λ fs. SlotsFit fs (map slot_in (field_entries block))) (sym (layout_is e block)) (slots_fit (byte_at 7) (field_entries block) r.fields))
     (subst (λ fs. SlotsFit fs (map slot_in (dev_entries block))) (sym (dev_layout_is e block (begins_and_counts block r.entries).1))
     (slots_fit (λ x. dev_code e (dev_in x)) (dev_entries block) fit)))
+
+-- the same by the base types that the block itself says
+lone_dev_layout : (block : List ℕ) → counts_stand block ≡ true
+    → zip (codes_in block) (map (λ (f : DevDef). f.size) (dev_defs (definition_in block).dev)) ≡ map (λ x. (byte_at 7 x, entry_size x)) (dev_entries block)
+lone_dev_layout block counts =
+    ap (λ (ds : List DevDef). zip (codes_in block) (map (λ (f : DevDef). f.size) ds)) (devs_are block counts) ∙ go (dev_entries block)
+  where
+    go : (es : List (List ℕ)) → zip (map (byte_at 7) es) (map (λ (f : DevDef). f.size) (map dev_in es))
+        ≡ map {B = ℕ × ℕ} (λ x. (byte_at 7 x, entry_size x)) es
+    go [] = refl
+    go (x ∷ es) = ap (λ fs. (byte_at 7 x, entry_size x) ∷ fs) (go es)
+
+pub lone_slots : (block : List ℕ) → IsReadable block → list_all (λ x. size_fits (byte_at 7 x) x) (dev_entries block) ≡ true
+    → SlotsFit (lone_layout (definition_in block) (codes_in block)) (slots_in block)
+lone_slots block r fit =
+    let d = definition_in block in
+    let fields : List (ℕ × ℕ) = map (λ (f : FieldDef). (f.code, f.size)) d.fields in
+    let dev : List (ℕ × ℕ) = zip (codes_in block) (map (λ (f : DevDef). f.size) (dev_defs d.dev)) in
+    subst (λ ss. SlotsFit (fields ++ dev) ss) (sym (slots_split block))
+    (fit-append fields dev (map slot_in (field_entries block)) (map slot_in (dev_entries block))
+    (subst (λ fs. SlotsFit fs (map slot_in (field_entries block))) (sym (layout_is empty_environment block))
+    (slots_fit (byte_at 7) (field_entries block) r.fields))
+    (subst (λ fs. SlotsFit fs (map slot_in (dev_entries block))) (sym (lone_dev_layout block (begins_and_counts block r.entries).1))
+    (slots_fit (byte_at 7) (dev_entries block) fit)))
+
+pub many_codes : (block : List ℕ) → IsReadable block → length (codes_in block) ≡ length (dev_defs (definition_in block).dev)
+many_codes block r =
+    length-map (dev_entries block) (byte_at 7) ∙ sym (length-map (dev_entries block) dev_in)
+    ∙ sym (ap length (devs_are block (begins_and_counts block r.entries).1))
 
 -- ---- the definition
 

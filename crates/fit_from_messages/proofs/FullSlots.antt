@@ -10,7 +10,8 @@ use Rattle.fit_base.specs.Fields.{items_bytes}
 use Rattle.fit_base.specs.declared.number.Order.{Order}
 use Rattle.fit_from_messages.specs.Parts.{items_read, slot_stands}
 use Rattle.fit_from_messages.specs.declared.slot.Slot.{Slot}
-use Rattle.fit_from_messages.specs.inner.Slots.{IsSlot, has_items, reach_of, slot_size}
+use Rattle.fit_from_messages.specs.Slots.{IsSlot, slot_size}
+use Rattle.fit_from_messages.specs.inner.Slots.{has_items, reach_of}
 
 -- ---- which have items
 

@@ -10,13 +10,14 @@ pub mod HeaderBack
 pub mod EventsBack
 pub mod ChainBack
 mod ReadNumbers
-mod CutEntries
+pub mod CutEntries
 pub mod SameSayings
 mod DefinitionFacts
 pub mod OneFinding
 mod PlacedItems
 mod MessageFacts
 mod FullSlots
+mod LoneBlocks
 mod SoundFiles
 mod DefinedSlots
 mod HeaderForms

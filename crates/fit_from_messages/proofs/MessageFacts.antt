@@ -32,7 +32,9 @@ use Rattle.fit_from_messages.specs.declared.fault.BlockReason.{BlockReason}
 use Rattle.fit_from_messages.specs.declared.fault.BlockReason.TheVariants as why
 use Rattle.fit_from_messages.specs.declared.slot.Slot.{Slot}
 use Rattle.fit_from_messages.specs.Parts.{byte_at, items_read, local_stands, offset_in, slot_stands}
-use Rattle.fit_from_messages.specs.inner.Slots.{IsSlot, Knows, SlotsFit, slot_size}
+use Rattle.fit_from_messages.specs.Alone.{message_with}
+use Rattle.fit_from_messages.specs.Slots.{IsSlot, SlotsFit, slot_size}
+use Rattle.fit_from_messages.specs.inner.Slots.{Knows}
 
 -- ---- widths
 
@@ -176,6 +178,28 @@ said_record f block p bytes are defined header fit stand is =
       subst (λ o. IsSomeAnd o (DataFits v)) (sym defined) fits,
       is ∙ ap (λ xs. data_header local (offset_in block) ∷ xs) (all_bytes block p.definition.order (fields_of f local) slots)
           ∙ ap (λ o. data_header local (offset_in block) ∷ data_bytes o v) (sym order),
+    )
+
+-- the same of a block by itself, in any file where the local message type has a definition of these slots
+pub lone_record : (e : Environment Global) (p : Defined Global) (block : List ℕ) (slots : List Slot) (local : ℕ) (offset : Option ℕ) (bytes : List ℕ)
+    → IsBytes block → defined_at e local ≡ Some p → DataHeaderFits local offset → SlotsFit (layout p ++ dev_layout p) slots
+    → list_all (slot_stands block) slots ≡ true
+    → bytes ≡ data_header local offset ∷ flat_map (λ s. items_bytes p.definition.order (items_read block s)) slots
+    → IsRecord e (Data (message_with block slots (length p.definition.fields) local offset)) bytes
+lone_record e p block slots local offset bytes are defined header fit stand is =
+    let count : ℕ = length p.definition.fields in
+    let v : Values Global = message_with block slots count local offset in
+    let n : count ≡ length (layout p) = sym (length-map p.definition.fields (λ (d : FieldDef). (d.code, d.size))) in
+    let both = shapes block (layout p) (dev_layout p) slots are fit stand in
+    let order : order_at e local ≡ p.definition.order = ap (λ o. unwrap_or (option_map (λ (q : Defined Global). q.definition.order) o) Little) defined in
+    let fits : DataFits v p = record {
+      header = header;
+      fields = subst (λ k. HaveShape (layout p) (map (items_read block) (take k slots))) (sym n) both.0;
+      dev_fields = subst (λ k. HaveShape (dev_layout p) (map (items_read block) (drop k slots))) (sym n) both.1;
+    } in (
+      subst (λ o. IsSomeAnd o (DataFits v)) (sym defined) fits,
+      is ∙ ap (λ xs. data_header local offset ∷ xs) (all_bytes block p.definition.order count slots)
+          ∙ ap (λ o. data_header local offset ∷ data_bytes o v) (sym order),
     )
 
 -- the same of a file that what is known is of

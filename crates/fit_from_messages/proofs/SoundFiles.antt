@@ -20,7 +20,7 @@ use Rattle.fit_record.specs.declared.message.Values.{Values}
 use Rattle.fit_from_messages.specs.declared.file.OpenFile.{OpenFile}
 use Rattle.fit_from_messages.specs.declared.slot.Slot.{Slot}
 use Rattle.fit_from_messages.specs.inner.OpenFiles.{IsGoodFile}
-use Rattle.fit_from_messages.specs.inner.Slots.{SlotsFit}
+use Rattle.fit_from_messages.specs.Slots.{SlotsFit}
 
 -- the slots are those of what is defined for a local message type, if anything is
 abbrev AreOf : Option (Defined Global) → List Slot → Type 0

@@ -1,4 +1,6 @@
 pub mod Parts
+pub mod Slots
+pub mod Alone
 pub mod SaysChain
 pub mod FromBlocks
 pub mod Laws

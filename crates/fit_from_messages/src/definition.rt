@@ -1,5 +1,6 @@
 //! Blocks of definitions.
 ghost use Rattle.std.specs.Prelude.{◌≡◌, ◌≤◌, [], IfErr, IfOk, OnOk, length};
+ghost use Rattle.fit_from_messages.specs.Alone.{why_no_parts};
 ghost use Rattle.fit_from_messages.specs.Parts as parts;
 ghost use Rattle.fit_from_messages.specs.Parts.{definition_in, slots_in};
 ghost use Rattle.fit_from_messages.specs.SaysChain.{Begun, why_no_definition};
@@ -42,6 +43,7 @@ pub(crate) fn read_definition(
     ensures slots { OnOk result (slots.new ≡ slots_in block.now) }
     ensures err { IfErr result (λ misfit. (f : Begun)
         → IsMisfitBlock (why_no_definition f block.now) misfit) }
+    ensures alone { IfErr result (IsMisfitBlock (why_no_parts block.now)) }
 {
     if block[5] >= 16 {
         return Err(Misfit::Block(BlockReason::Local));

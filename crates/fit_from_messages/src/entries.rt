@@ -45,7 +45,7 @@ fn entry_stands(entry: &[u8], developer: u8) -> bool
 }
 
 /// The first entry of some bytes, as far as they go, and the bytes after it.
-pub(crate) fn split_entry(bytes: &[u8]) -> (&[u8], &[u8])
+pub fn split_entry(bytes: &[u8]) -> (&[u8], &[u8])
     requires { 2 ≤ length bytes.now }
     ensures entry { result.0.now ≡ take (number_read 2 0 bytes.now) bytes.now }
     ensures rest { result.1.now ≡ drop (number_read 2 0 bytes.now) bytes.now }

@@ -26,7 +26,7 @@ fn size_in(entry: &[u8]) -> Option<u8>
 }
 
 /// The field that an entry says, where its items have the width that its base type and its size give.
-fn field_in(entry: &[u8]) -> Option<FieldDef>
+pub(crate) fn field_in(entry: &[u8]) -> Option<FieldDef>
     requires { 32 ≤ length entry.now }
     ensures some { IfSome result (λ field. field ≡ field_in entry.now) }
     ensures fits { IfSome result (λ field. size_fits (byte_at 7 entry.now) entry.now ≡ true) }

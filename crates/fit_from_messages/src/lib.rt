@@ -1,6 +1,7 @@
 //! Blocks of bytes, as `fit_messages` makes them of a chain of files, back to the bytes of the chain.
 #![tactic(auto)]
 
+mod alone;
 mod chain;
 mod definition;
 mod entries;
@@ -16,5 +17,13 @@ mod parts;
 mod place;
 mod slot;
 
+pub use alone::{
+    LoneDefinition, is_lone_message, lone_definition, lone_header, slots_stand, spell_lone,
+};
+pub use entries::split_entry;
 pub use fault::{BlockReason, BlocksFault};
 pub use from::from_messages;
+pub use message::MessageFront;
+pub use misfit::Misfit;
+pub use parts::{short_at, word_at};
+pub use slot::Slot;

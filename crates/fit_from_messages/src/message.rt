@@ -11,7 +11,8 @@ ghost use Rattle.fit_from_messages.specs.Parts as parts;
 ghost use Rattle.fit_from_messages.specs.Parts.{byte_at, items_read, slot_stands};
 ghost use Rattle.fit_from_messages.specs.SaysChain.{Begun, message_said, why_no_message};
 ghost use Rattle.fit_from_messages.specs.inner.Misfits.{IsMisfitBlock};
-ghost use Rattle.fit_from_messages.specs.inner.Slots.{IsSlot, Knows, SlotsFit, slot_size};
+ghost use Rattle.fit_from_messages.specs.inner.Slots.{Knows};
+ghost use Rattle.fit_from_messages.specs.Slots.{IsSlot, SlotsFit, slot_size};
 
 use crate::BlockReason;
 use crate::misfit::Misfit;
@@ -24,9 +25,9 @@ use std::alloc::AllocError;
 
 /// What the record header of a message says.
 #[derive(Clone, Copy)]
-struct MessageFront {
-    local: u8,
-    offset: Option<u8>,
+pub struct MessageFront {
+    pub local: u8,
+    pub offset: Option<u8>,
 }
 
 /// The time offset that the block of a message says.
@@ -69,7 +70,7 @@ fn read_front(block: &[u8]) -> Result<MessageFront, Misfit>
 
 /// The record header of a message.
 #[inline(always)]
-fn record_header(front: MessageFront) -> u8
+pub(crate) fn record_header(front: MessageFront) -> u8
     requires { DataHeaderFits front.local front.offset }
     ensures { result ≡ data_header front.local front.offset }
 {
@@ -81,7 +82,7 @@ fn record_header(front: MessageFront) -> u8
 
 /// Makes bytes at least this many, with zeros at the end.
 #[inline(always)]
-fn make_room(bytes: &mut Vec<u8>, size: usize) -> Result<(), AllocError>
+pub(crate) fn make_room(bytes: &mut Vec<u8>, size: usize) -> Result<(), AllocError>
     ensures enough { OnOk result (size ≤ length bytes.new.items) }
     ensures few { length bytes.new.items ≤ max size (length bytes.old.items) }
 {

@@ -7,7 +7,7 @@ use std::alloc::AllocError;
 
 /// Why a block isn't taken after the blocks before it.
 #[derive(Clone, Copy, Drop)]
-pub(crate) enum Misfit {
+pub enum Misfit {
     /// It can't stand there.
     Block(BlockReason),
     /// Memory was refused.

@@ -23,7 +23,7 @@ pub(crate) fn number_at(width: u8, place: usize, bytes: &[u8]) -> u64
 
 /// The number of two bytes at a place.
 #[inline(always)]
-pub(crate) fn short_at(place: usize, bytes: &[u8]) -> u16
+pub fn short_at(place: usize, bytes: &[u8]) -> u16
     requires { place + 2 ≤ length bytes.now }
     ensures { result ≡ number_read 2 place bytes.now }
 {
@@ -32,7 +32,7 @@ pub(crate) fn short_at(place: usize, bytes: &[u8]) -> u16
 
 /// The number of four bytes at a place.
 #[inline(always)]
-pub(crate) fn word_at(place: usize, bytes: &[u8]) -> u32
+pub fn word_at(place: usize, bytes: &[u8]) -> u32
     requires { place + 4 ≤ length bytes.now }
     ensures { result ≡ number_read 4 place bytes.now }
 {

@@ -7,7 +7,7 @@ ghost use Rattle.fit_base.specs.Fields.{items_bytes};
 ghost use Rattle.fit_base.specs.Numbers.{number_bytes};
 ghost use Rattle.fit_record.specs.ReadMessages.{numbers_of};
 ghost use Rattle.fit_from_messages.specs.Parts.{items_read, slot_stands};
-ghost use Rattle.fit_from_messages.specs.inner.Slots.{IsSlot, slot_size};
+ghost use Rattle.fit_from_messages.specs.Slots.{IsSlot, slot_size};
 
 use crate::slot::{Slot, Slots};
 use fit_base::{Order, bits_at};
@@ -75,7 +75,7 @@ fn place_slot(bytes: &mut [u8], at: usize, order: Order, block: &[u8], slot: Slo
 
 /// Writes the items of these fields, unless some aren't in the block.
 #[inline(always)]
-fn place_slots(
+pub(crate) fn place_slots(
     bytes: &mut [u8],
     at: usize,
     order: Order,

@@ -1,6 +1,7 @@
 //! Where the items of fields are.
 ghost use Rattle.std.specs.Prelude.{◌≡◌, [], IfOk, filter};
-ghost use Rattle.fit_from_messages.specs.inner.Slots.{has_items, reach_of, slot_size};
+ghost use Rattle.fit_from_messages.specs.Slots.{slot_size};
+ghost use Rattle.fit_from_messages.specs.inner.Slots.{has_items, reach_of};
 
 use fit_base::Entries;
 use std::alloc::{AllocError, Global};
@@ -8,7 +9,7 @@ use std::marker::Model;
 
 /// Where the items of a field are in the block of a message, how many bytes each has, and how many there are.
 #[derive(Clone, Copy)]
-pub(crate) struct Slot {
+pub struct Slot {
     pub place: u32,
     pub width: u8,
     pub count: u8,

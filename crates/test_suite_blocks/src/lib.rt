@@ -6,4 +6,8 @@ mod asserts;
 #[cfg(test)]
 mod back;
 #[cfg(test)]
+mod put;
+#[cfg(test)]
+mod put_alone;
+#[cfg(test)]
 mod refused;

@@ -5,7 +5,7 @@ use Rattle.fit_record.specs.Environment.{defined_at, empty_environment, learn_al
 use Rattle.fit_record.specs.Records.{AllFit, dev_layout, layout}
 use Rattle.fit_from_messages.specs.SaysChain.{Begun}
 use Rattle.fit_from_messages.specs.declared.file.OpenFile.{OpenFile}
-use Rattle.fit_from_messages.specs.inner.Slots.{SlotsFit}
+use Rattle.fit_from_messages.specs.Slots.{SlotsFit}
 
 -- what blocks have said of the file
 abbrev pub begun_of : OpenFile → Begun

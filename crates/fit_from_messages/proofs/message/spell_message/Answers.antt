@@ -5,7 +5,7 @@ use Rattle.fit_base.proofs.ByteLists.{slice_is_bytes}
 use Rattle.fit_record.specs.Environment.{defined_at}
 use Rattle.fit_record.specs.Records.{dev_layout, layout, message_size}
 use Rattle.fit_from_messages.specs.Parts.{byte_at}
-use Rattle.fit_from_messages.specs.inner.Slots.{SlotsFit}
+use Rattle.fit_from_messages.specs.Slots.{SlotsFit}
 use Rattle.fit_from_messages.proofs.MessageFacts.{all_written, are_slots, known_record, same_size, size_known}
 use Rattle.fit_from_messages.proofs.message.spell_message.Goals as goal
 

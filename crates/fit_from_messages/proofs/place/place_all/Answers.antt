@@ -3,7 +3,7 @@ use Rattle.std.specs.List.{All, list_all}
 use Rattle.std.specs.Prelude.{sum_by, IfSome}
 use Rattle.fit_base.specs.Fields.{items_bytes}
 use Rattle.fit_from_messages.specs.Parts.{items_read, slot_stands}
-use Rattle.fit_from_messages.specs.inner.Slots.{IsSlot, slot_size}
+use Rattle.fit_from_messages.specs.Slots.{IsSlot, slot_size}
 use Rattle.fit_from_messages.proofs.FullSlots.{full_slots, past_reach, same_items, same_sum, within_reach}
 use Rattle.fit_from_messages.proofs.place.place_all.Goals as goal
 

@@ -3,7 +3,7 @@ use Rattle.std.specs.Prelude.{flat_map, sum_by}
 use Rattle.std.specs.List.{list_all}
 use Rattle.fit_base.specs.Fields.{items_bytes}
 use Rattle.fit_from_messages.specs.Parts.{items_read, slot_stands}
-use Rattle.fit_from_messages.specs.inner.Slots.{slot_size}
+use Rattle.fit_from_messages.specs.Slots.{slot_size}
 use Rattle.fit_from_messages.proofs.place.place_slots.Given as goal
 
 -- with the other fields it is what all are

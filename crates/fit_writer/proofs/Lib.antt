@@ -1,0 +1,11 @@
+mod AllRead
+mod Calls
+mod Ends
+mod Grown
+mod LoneForms
+mod Namings
+mod OwnTimes
+mod Puts
+mod ReadThere
+mod SameDevs
+mod WholeFiles

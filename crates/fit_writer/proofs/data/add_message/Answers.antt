@@ -1,0 +1,11 @@
+use Rattle.std.proofs.Common.{rules}
+use Rattle.fit_record.specs.declared.message.Record.TheVariants.{Values as Data}
+use Rattle.fit_writer.proofs.Grown.{are_more}
+use Rattle.fit_writer.proofs.data.add_message.Goals as goal
+
+pub returns-in-Ok-clause-are : goal.returns-in-Ok-clause-are
+returns-in-Ok-clause-are c =
+    let v = c.requires.message.0 in
+    let is = c.requires.message.1 in
+    rw (c.in_ok-extend_from_slice.ensures.items, c.in-Ok.ensures.ok v is)
+    (are_more c.args.stream.now (Data v) c.args.section.now.items c.args.bytes.now c.requires.are is.0 is.1 c.requires.room)

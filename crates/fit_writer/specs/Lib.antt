@@ -1,0 +1,5 @@
+pub mod Reading
+pub mod Written
+pub mod Finished
+pub mod Laws
+pub mod inner

@@ -1,0 +1,198 @@
+-- What a writer of messages has written, what each call adds, and why it refuses.
+use Rattle.std.specs.Prelude.{◌≡◌, ◌⊎◌, ◌+◌, ◌<◌, ◌≤◌, ◌^◌, ℕ, is_none, if◌then◌else◌, List, [], ◌∷◌, ◌++◌, length, reverse}
+use Rattle.std.specs.Prelude.{Option, Some, None, IsSomeAnd}
+use Rattle.std.specs.Global.{Global}
+use Rattle.fit_frame.specs.declared.header.Header.{Header}
+use Rattle.fit_frame.specs.declared.header.HeaderSum.TheVariants.{True}
+use Rattle.fit_frame.specs.Header.{ZeroIsSum}
+use Rattle.fit_record.specs.declared.definition.MessageDef.{MessageDef}
+use Rattle.fit_record.specs.declared.environment.Defined.{Defined}
+use Rattle.fit_record.specs.declared.file.FitFile.{FitFile}
+use Rattle.fit_record.specs.declared.message.Record.{Record}
+use Rattle.fit_record.specs.declared.message.Record.TheVariants.{Define, Values as Data}
+use Rattle.fit_record.specs.declared.message.Values.{Values}
+use Rattle.fit_record.specs.Environment.{defined_at, dev_defs, empty_environment}
+use Rattle.fit_record.specs.Files.{chain_limit}
+use Rattle.fit_record.specs.Records.{records_bytes}
+use Rattle.fit_profile.specs.Described.{namings_at}
+use Rattle.fit_profile.specs.Looks.{known}
+use Rattle.fit_profile.specs.Times.{header_time, previous_time}
+use Rattle.fit_from_messages.specs.Alone.{why_no_lone_definition, why_no_lone_header, why_no_lone_message}
+use Rattle.fit_from_messages.specs.Parts.{definition_in, offset_in}
+use Rattle.fit_writer.specs.Reading.{Form, dated, form_in, header_time_in, fields_time, reading_after, said_reading}
+use Rattle.fit_writer.specs.declared.refusal.Refusal.{Refusal}
+use Rattle.fit_writer.specs.declared.refusal.Refusal.TheVariants.{NoFile, TooManyFiles, Block, Message, Described, Full, Time, TooLong, NoMemory}
+
+-- ---- what has been written
+
+-- a file that has begun and not ended: its header, and its records, the latest first
+pub record Current : Type 0 where
+  pub header : Header
+  pub records : List (Record Global)
+
+-- whole files, and the one that has begun
+pub record Writing : Type 0 where
+  pub files : List (FitFile Global)
+  pub current : Option Current
+
+abbrev pub nothing_written : Writing
+nothing_written = record { files = []; current = None }
+
+-- how many files there are, with the one that has begun
+abbrev pub file_count : Writing → ℕ
+file_count w = length w.files + (if is_none w.current then 0 else 1)
+
+-- how many bytes the data has
+abbrev pub data_length : List (Record Global) → ℕ
+data_length records = length (records_bytes empty_environment (reverse records))
+
+-- The header that a file gets when it ends: zeros don't stand for a sum that is 0, which has these bytes itself.
+abbrev pub IsLastHeader : ℕ → Header → Header → Type 0
+IsLastHeader n given last = ((ZeroIsSum given n → ⊥) × (last ≡ given)) ⊎ (ZeroIsSum given n × (last ≡ record given { sum = True }))
+
+-- The file that had begun is whole.
+abbrev pub IsEnded : Writing → List (FitFile Global) → Type 0
+IsEnded w files = (w.current ≡ None → files ≡ w.files)
+    × ((f : Current) → w.current ≡ Some f → (last : Header) × IsLastHeader (data_length f.records) f.header last
+    × (files ≡ w.files ++ record { header = last; records = reverse f.records } ∷ []))
+
+-- The file that had begun has ended, and nothing else has changed.
+abbrev pub EndsFile : Writing → Writing → Type 0
+EndsFile old new = IsEnded old new.files × (new.current ≡ None)
+
+-- A file has begun after the others.
+abbrev pub BeginsFile : Writing → Writing → Header → Type 0
+BeginsFile old new header = IsEnded old new.files × (new.current ≡ Some (record { header = header; records = [] }))
+
+-- the same with these records of the file that has begun
+abbrev pub with_records : Writing → Current → List (Record Global) → Writing
+with_records w f records = record w { current = Some (record f { records = records }) }
+
+-- The definition message was put.
+abbrev pub PutsDefinition : Writing → Writing → MessageDef Global → Type 0
+PutsDefinition old new d = IsSomeAnd old.current (λ f. new ≡ with_records old f (Define d ∷ f.records))
+
+-- ---- what a put adds
+
+-- What is defined for a local message type is read as this form: the same fields, base types, names and units.
+pub record SaysSame (before : List (Record Global)) (local : ℕ) (f : Form) (p : Defined Global) : Type 0 where
+  pub defined : defined_at (known before) local ≡ Some p
+  pub global : p.definition.global ≡ f.definition.global
+  pub fields : p.definition.fields ≡ f.definition.fields
+  pub dev : dev_defs p.definition.dev ≡ dev_defs f.definition.dev
+  pub codes : p.dev_codes ≡ f.codes
+  pub namings : namings_at before local ≡ f.namings
+
+-- records with a definition message after them, where there is one
+abbrev pub with_definition : Option (MessageDef Global) → List (Record Global) → List (Record Global)
+with_definition None before = before
+with_definition (Some d) before = Define d ∷ before
+
+-- The block has a time offset, and it says the same time here.
+pub record KeepsOffset (before : List (Record Global)) (block : List ℕ) : Type 0 where
+  pub offset : ℕ
+  pub is : offset_in block ≡ Some offset
+  pub same : header_time (previous_time before) (Some offset) ≡ header_time_in block
+
+-- The message has no time but that of its header, which its offset doesn't say here.
+pub record NeedsTimestamp (before : List (Record Global)) (f : Form) (block : List ℕ) (t : ℕ) : Type 0 where
+  pub lost : KeepsOffset before block → ⊥
+  pub told : header_time_in block ≡ Some t
+  pub alone : fields_time f block ≡ None
+
+-- The form that the message needs: its own, or with a timestamp. There is none where there are 255 fields, or the time is the number that
+-- stands for none.
+abbrev pub IsNeeded : List (Record Global) → Form → List ℕ → Form → Type 0
+IsNeeded before f block needed =
+    (((t : ℕ) → NeedsTimestamp before f block t → ⊥) × (needed ≡ f))
+    ⊎ ((t : ℕ) × NeedsTimestamp before f block t × (length f.definition.fields < 255) × (t < 0xFFFFFFFF) × (needed ≡ dated f))
+
+-- the local message types that the record header of the message can name: 4 with a time offset
+abbrev pub CanName : List (Record Global) → List ℕ → ℕ → Type 0
+CanName before block local = (local < 16) × (KeepsOffset before block → local < 4)
+
+-- the same definition for another local message type
+abbrev pub with_local : MessageDef Global → ℕ → MessageDef Global
+with_local d local = record d { local = local }
+
+-- Which local message type a message of this form gets, and when a definition message comes before it: only where none that its header can
+-- name says the same, and never with developer fields. A local message type that says the same or is free is taken before others, and first
+-- of all that of the block of the definition.
+pub record IsPlaced (before : List (Record Global)) (form : Form) (block : List ℕ) (defined : Option (MessageDef Global)) (local : ℕ) : Type 0 where
+  pub own : (p : Defined Global) → CanName before block form.definition.local → SaysSame before form.definition.local form p
+      → local ≡ form.definition.local
+  pub fresh : (d : MessageDef Global) → defined ≡ Some d → (k : ℕ) (p : Defined Global) → CanName before block k → SaysSame before k form p → ⊥
+  pub defines : (d : MessageDef Global) → defined ≡ Some d → (d ≡ with_local form.definition local) × (dev_defs d.dev ≡ [])
+  pub own_free : (d : MessageDef Global) → defined ≡ Some d → CanName before block form.definition.local
+      → defined_at (known before) form.definition.local ≡ None → local ≡ form.definition.local
+  pub free : (d : MessageDef Global) → defined ≡ Some d → (k : ℕ) → CanName before block k → defined_at (known before) k ≡ None
+      → defined_at (known before) local ≡ None
+
+-- A message was put after these records, in the form that it needs: a reader is told what a block of that form says. Its time offset is kept
+-- where that says the same time here; else it has none.
+pub record IsPut (before after : List (Record Global)) (f : Form) (block : List ℕ) : Type 0 where
+  pub form : Form
+  pub needed : IsNeeded before f block form
+  pub defined : Option (MessageDef Global)
+  pub message : Values Global
+  pub records : after ≡ Data message ∷ with_definition defined before
+  pub told : reading_after (with_definition defined before) message ≡ Some (said_reading form block)
+  pub kept : KeepsOffset before block → message.offset ≡ offset_in block
+  pub without : (KeepsOffset before block → ⊥) → message.offset ≡ None
+  pub placed : IsPlaced before form block defined message.local
+
+abbrev pub PutsMessage : Writing → Writing → Form → List ℕ → Type 0
+PutsMessage old new form block =
+    IsSomeAnd old.current (λ f. (after : List (Record Global)) × IsPut f.records after form block × (new ≡ with_records old f after))
+
+-- Of the message just the definition message was put that it needs.
+abbrev pub PutsHalf : List (Record Global) → List (Record Global) → Form → List ℕ → Type 0
+PutsHalf before after f block =
+    (needed : Form) × IsNeeded before f block needed × (local : ℕ) × (after ≡ Define (with_local needed.definition local) ∷ before)
+
+-- After a refusal nothing has changed; but where memory was refused, the definition message that the message needs may have been put.
+abbrev pub KeepsAll : Writing → Writing → Form → List ℕ → Refusal → Type 0
+KeepsAll old new form block NoMemory =
+    (new ≡ old) ⊎ IsSomeAnd old.current (λ f. (after : List (Record Global)) × PutsHalf f.records after form block × (new ≡ with_records old f after))
+KeepsAll old new form block _ = new ≡ old
+
+-- ---- why a call is refused
+
+-- A header's block can't begin a file.
+abbrev pub IsHeaderRefusal : Writing → List ℕ → Refusal → Type 0
+IsHeaderRefusal w block (Block reason) = why_no_lone_header block ≡ Some reason
+IsHeaderRefusal w block TooManyFiles = (why_no_lone_header block ≡ None) × (chain_limit ≤ file_count w)
+IsHeaderRefusal w block NoMemory = Unit {0}
+IsHeaderRefusal w block _ = ⊥
+
+-- After a definition message the data would be too long.
+abbrev pub IsDefinitionRefusal : Option Current → List ℕ → Refusal → Type 0
+IsDefinitionRefusal None block NoFile = Unit {0}
+IsDefinitionRefusal None block _ = ⊥
+IsDefinitionRefusal (Some f) block (Block reason) = why_no_lone_definition block ≡ Some reason
+IsDefinitionRefusal (Some f) block TooLong =
+    (why_no_lone_definition block ≡ None) × (2 ^ 32 ≤ data_length (Define (definition_in block) ∷ f.records))
+IsDefinitionRefusal (Some f) block NoMemory = Unit {0}
+IsDefinitionRefusal (Some f) block _ = ⊥
+
+-- The blocks stand, but the message can't come after these records: a timestamp is needed where there are 255 fields or the time is the
+-- number that stands for none; no definition that its header can name describes its developer fields so; or the data would be too long.
+abbrev pub IsPlaceRefusal : List (Record Global) → Form → List ℕ → Refusal → Type 0
+IsPlaceRefusal before f block Full = (t : ℕ) × NeedsTimestamp before f block t × (length f.definition.fields ≡ 255)
+IsPlaceRefusal before f block Time = NeedsTimestamp before f block 0xFFFFFFFF × (length f.definition.fields < 255)
+IsPlaceRefusal before f block Described =
+    (needed : Form) × IsNeeded before f block needed × (dev_defs f.definition.dev ≡ [] → ⊥)
+    × ((local : ℕ) (p : Defined Global) → CanName before block local → SaysSame before local needed p → ⊥)
+IsPlaceRefusal before f block TooLong = (after : List (Record Global)) × IsPut before after f block × (2 ^ 32 ≤ data_length after)
+IsPlaceRefusal before f block _ = ⊥
+
+abbrev pub IsMessageRefusal : Option Current → List ℕ → List ℕ → Refusal → Type 0
+IsMessageRefusal None definition block NoFile = Unit {0}
+IsMessageRefusal None definition block _ = ⊥
+IsMessageRefusal (Some f) definition block (Block reason) = why_no_lone_definition definition ≡ Some reason
+IsMessageRefusal (Some f) definition block (Message reason) =
+    (why_no_lone_definition definition ≡ None) × (why_no_lone_message definition block ≡ Some reason)
+IsMessageRefusal (Some f) definition block NoMemory = Unit {0}
+IsMessageRefusal (Some f) definition block reason =
+    (why_no_lone_definition definition ≡ None) × (why_no_lone_message definition block ≡ None)
+    × IsPlaceRefusal f.records (form_in definition) block reason

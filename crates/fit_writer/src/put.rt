@@ -1,0 +1,155 @@
+//! In which form a message is put.
+ghost use Rattle.std.specs.Prelude.{◌≡◌, ◌<◌, ◌≤◌, ◌∷◌, ℕ, IfErr, IfOk, IfSome, IsNone, None, OnErr, OnOk, Some, length, true};
+ghost use Rattle.std.specs.List.{list_all};
+ghost use Rattle.fit_record.specs.Environment.{dev_defs};
+ghost use Rattle.fit_from_messages.specs.Alone.{why_no_message_at};
+ghost use Rattle.fit_from_messages.specs.Parts as parts;
+ghost use Rattle.fit_from_messages.specs.Parts.{slot_stands};
+ghost use Rattle.fit_writer.specs.Reading as saying;
+ghost use Rattle.fit_writer.specs.inner.OpenFiles.{IsGoodOpenFile, IsHalfPut, current_of};
+ghost use Rattle.fit_writer.specs.inner.Places.{IsLone, form_of};
+ghost use Rattle.fit_writer.specs.inner.Puts.{IsChosen, IsHalfPutInto, IsKeptOffset, IsPutInto, IsToldIn, IsUnchosen, IsRefusedPut, IsUnplaced, limit_of};
+
+use crate::Refusal;
+use crate::file::OpenFile;
+use crate::forms::dated;
+use crate::places::{find_same, free_place};
+use crate::times::{header_time_in, own_time};
+use fit_from_messages::{BlockReason, LoneDefinition, MessageFront, is_lone_message, slots_stand};
+use fit_profile::Stream;
+use std::alloc::{AllocError, Global};
+
+/// The time offset that a block says, where it says the same time after these records.
+fn kept_offset(stream: &Stream, block: &[u8], time: Option<u32>) -> Option<u8>
+    requires front { 24 ≤ length block.now }
+    requires stands { parts.offset_stands block.now ≡ true }
+    requires time { time ≡ saying.header_time_in block.now }
+    ensures kept { IsKeptOffset stream.now block.now result }
+    ensures few { IfSome result (λ offset. offset < 32) }
+{
+    let offset = block[7];
+    if offset != 0xFF && stream.header_time(offset) == time {
+        Some(offset)
+    } else {
+        None
+    }
+}
+
+/// The form with a timestamp, where a message needs it. None where its own will do.
+fn needed<'a>(
+    alloc: Global,
+    lone: &LoneDefinition<'a>,
+    is_kept: bool,
+    time: Option<u32>,
+    block: &[u8],
+) -> Result<Option<LoneDefinition<'a>>, Refusal>
+    requires lone { IsLone lone.now }
+    requires stand { list_all (slot_stands block.now) lone.now.slots ≡ true }
+    requires time { time ≡ saying.header_time_in block.now }
+    ensures own { IfOk result (λ o. o ≡ None
+        → IsChosen (form_of lone.now) block.now is_kept (form_of lone.now)) }
+    ensures dated { IfOk result (λ o. IfSome o (λ d.
+        IsChosen (form_of lone.now) block.now is_kept (form_of d))) }
+    ensures lone { IfOk result (λ o. IfSome o IsLone) }
+    ensures stand { IfOk result (λ o. IfSome o (λ d.
+        list_all (slot_stands block.now) d.slots ≡ true)) }
+    ensures err { IfErr result (IsUnchosen (form_of lone.now) block.now is_kept) }
+{
+    let Some(time) = time else {
+        return Ok(None);
+    };
+    if is_kept || own_time(&lone.definition, lone.slots.as_slice(), block).is_some() {
+        return Ok(None);
+    }
+    if lone.definition.fields.len() == 255 {
+        return Err(Refusal::Full);
+    }
+    if time == 0xFFFF_FFFF {
+        return Err(Refusal::Time);
+    }
+    let with_time = dated(alloc, lone)?;
+    Ok(Some(with_time))
+}
+
+/// How many local message types a record header can name: 4 with a time offset, else 16.
+fn limit_of(offset: Option<u8>) -> u8
+    ensures { result ≡ limit_of offset }
+{
+    if offset.is_some() { 4 } else { 16 }
+}
+
+/// Puts a message in this form and with this time offset.
+fn put_needed(
+    alloc: Global,
+    file: &mut OpenFile,
+    lone: &LoneDefinition<'_>,
+    offset: Option<u8>,
+    block: &[u8],
+) -> Result<(), Refusal>
+    requires good { IsGoodOpenFile file.old }
+    requires lone { IsLone lone.now }
+    requires stand { list_all (slot_stands block.now) lone.now.slots ≡ true }
+    requires offset { IfSome offset (λ o. o < 32) }
+    ensures ok { OnOk result (IsToldIn file.old file.new (form_of lone.now) block.now offset) }
+    ensures good { IsGoodOpenFile file.new }
+    ensures err { IfErr result (IsHalfPut file.old file.new lone.now.definition) }
+    ensures refused { IfErr result
+        (IsUnplaced file.old.stream (form_of lone.now) block.now offset) }
+{
+    let limit = limit_of(offset);
+    match find_same(&file.stream, lone, limit) {
+        Some(local) => file.put_known(MessageFront { local, offset }, lone, block),
+        None => {
+            if !lone.codes.is_empty() {
+                return Err(Refusal::Described);
+            }
+            let own = lone.definition.local;
+            let local = free_place(&file.stream, &file.turns, own, limit);
+            file.put_both(alloc, MessageFront { local, offset }, lone, block)
+        }
+    }
+}
+
+/// Why a message's block can't stand, by where its items are.
+fn reason_of(lone: &LoneDefinition<'_>, block: &[u8]) -> Option<BlockReason>
+    ensures reason { result ≡ why_no_message_at block.now lone.now.slots }
+    ensures front { result ≡ None → 24 ≤ length block.now }
+    ensures offset { result ≡ None → parts.offset_stands block.now ≡ true }
+    ensures stand { result ≡ None → list_all (slot_stands block.now) lone.now.slots ≡ true }
+{
+    if let Some(reason) = is_lone_message(block) {
+        return Some(reason);
+    }
+    if slots_stand(lone.slots.as_slice(), block) {
+        None
+    } else {
+        Some(BlockReason::Items)
+    }
+}
+
+/// Puts a message by its form.
+pub(crate) fn put_message(
+    alloc: Global,
+    file: &mut OpenFile,
+    lone: &LoneDefinition<'_>,
+    block: &[u8],
+) -> Result<(), Refusal>
+    requires good { IsGoodOpenFile file.old }
+    requires lone { IsLone lone.now }
+    ensures ok { OnOk result (IsPutInto file.old file.new (form_of lone.now) block.now) }
+    ensures good { IsGoodOpenFile file.new }
+    ensures err { IfErr result
+        (IsHalfPutInto file.old file.new (form_of lone.now) block.now) }
+    ensures refused { IfErr result (IsRefusedPut file.old.stream (form_of lone.now) block.now
+        (why_no_message_at block.now lone.now.slots)) }
+{
+    if let Some(reason) = reason_of(lone, block) {
+        return Err(Refusal::Message(reason));
+    }
+    let time = header_time_in(block);
+    let offset = kept_offset(&file.stream, block, time);
+    match needed(alloc, lone, offset.is_some(), time, block)? {
+        None => put_needed(alloc, file, lone, offset, block),
+        Some(dated) => put_needed(alloc, file, &dated, offset, block),
+    }
+}

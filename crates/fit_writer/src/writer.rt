@@ -1,0 +1,161 @@
+//! A writer of messages.
+ghost use Rattle.std.specs.Prelude.{◌≡◌, ◌↔◌, ◌<◌, IfErr, IsTrue, OnErr, OnOk};
+ghost use Rattle.fit_decode.specs.Reads.{channel};
+ghost use Rattle.fit_record.specs.Files.{chain_limit};
+ghost use Rattle.fit_from_messages.specs.Parts.{definition_in, header_in};
+ghost use Rattle.fit_writer.specs.Reading.{form_in};
+ghost use Rattle.fit_writer.specs.Written.{BeginsFile, PutsDefinition, EndsFile, IsDefinitionRefusal, IsHeaderRefusal, IsMessageRefusal, KeepsAll, PutsMessage, file_count, nothing_written};
+ghost use Rattle.fit_writer.specs.Finished.{IsFinished, IsNotFinished};
+
+use crate::chain::Chain;
+use crate::file::OpenFile;
+use crate::put::put_message;
+use crate::{FinishFault, Refusal};
+use fit_encode::Sink;
+use fit_from_messages::{Misfit, lone_definition, lone_header};
+use std::alloc::{AllocError, Global};
+use std::marker::Model;
+
+/// Writes messages, one after another, into the files of a chain. They are given as blocks of bytes (`docs/BLOCKS.md`): that of a message
+/// with that of its definition, from any file or made of values. A reader of the chain is told of each message what its block says.
+///
+/// The writer keeps the stream that a reader of its bytes would have, and writes a message in the form in which that stream tells what was
+/// put: with a definition that is there or a new one, with its time offset or, where that would say another time, with a timestamp. Where
+/// there is no such form the call is refused, and nothing has changed.
+#[derive(Drop)]
+pub struct MessageWriter {
+    files: Chain,
+    is_open: bool,
+    /// Where none has begun, what is left of the last one.
+    file: OpenFile,
+    alloc: Global,
+}
+
+impl Model for MessageWriter {
+    ghost use Rattle.fit_writer.specs.Written.{Writing};
+
+    ghost Value = { Writing };
+
+    ghost use Rattle.fit_writer.specs.inner.OpenFiles.{IsGoodWriter, writing_of};
+
+    ghost view = { λ w. writing_of w.files w.is_open w.file };
+
+    ghost invariant = { λ w. IsGoodWriter w.files w.is_open w.file };
+}
+
+impl MessageWriter {
+    /// No file.
+    pub fn new(alloc: Global) -> MessageWriter
+        ensures { result ≡ nothing_written }
+    {
+        MessageWriter {
+            files: Chain::new(alloc),
+            is_open: false,
+            file: OpenFile::new(alloc),
+            alloc,
+        }
+    }
+
+    /// Begins a file with the header that a block says; the file before it ends.
+    pub fn begin_file(&mut self, block: &[u8]) -> Result<(), Refusal>
+        ensures ok { OnOk result (BeginsFile self.old self.new (header_in block.now)) }
+        ensures refused { IfErr result (IsHeaderRefusal self.old block.now) }
+        ensures unchanged { OnErr result (self.new ≡ self.old) }
+    {
+        let header = match lone_header(block) {
+            Ok(header) => header,
+            Err(reason) => return Err(Refusal::Block(reason)),
+        };
+        if !self.has_room() {
+            return Err(Refusal::TooManyFiles);
+        }
+        self.end_file()?;
+        self.file.begin(header);
+        self.is_open = true;
+        Ok(())
+    }
+
+    /// Puts just the definition message that a block says, with its local message type, architecture and reserved byte.
+    pub fn put_definition(&mut self, block: &[u8]) -> Result<(), Refusal>
+        ensures ok { OnOk result (PutsDefinition self.old self.new (definition_in block.now)) }
+        ensures refused { IfErr result (IsDefinitionRefusal self.old.current block.now) }
+        ensures unchanged { OnErr result (self.new ≡ self.old) }
+    {
+        if !self.is_open {
+            return Err(Refusal::NoFile);
+        }
+        match lone_definition(self.alloc, block) {
+            Ok(lone) => self.file.put_definition(lone.definition),
+            Err(Misfit::Block(reason)) => Err(Refusal::Block(reason)),
+            Err(Misfit::NoMemory) => Err(Refusal::NoMemory),
+        }
+    }
+
+    /// Puts the message that a block says, by the block of its definition.
+    ///
+    /// It is refused where a block can't stand by itself, which is a reason of `from_messages`; `Full` and `Time` where the message needs
+    /// a timestamp that it can't have; `Described` where no definition with its developer fields is there that gives them these base types,
+    /// names and units: put one first; `TooLong` where the file would have more data than a file may have.
+    pub fn put_message(&mut self, definition: &[u8], block: &[u8]) -> Result<(), Refusal>
+        // A reader is told what the block says, after all that it is told before.
+        ensures written { OnOk result (PutsMessage self.old self.new
+            (form_in definition.now) block.now) }
+        ensures refused { IfErr result
+            (IsMessageRefusal self.old.current definition.now block.now) }
+        // Where memory is refused, the definition message may have been put, which tells no message.
+        ensures unchanged { IfErr result
+            (KeepsAll self.old self.new (form_in definition.now) block.now) }
+    {
+        if !self.is_open {
+            return Err(Refusal::NoFile);
+        }
+        match lone_definition(self.alloc, definition) {
+            Ok(lone) => put_message(self.alloc, &mut self.file, &lone, block),
+            Err(Misfit::Block(reason)) => Err(Refusal::Block(reason)),
+            Err(Misfit::NoMemory) => Err(Refusal::NoMemory),
+        }
+    }
+
+    /// Ends the file that has begun, and writes the chain. After an error nothing is lost: it may be called again, also with another sink.
+    pub fn finish<K: Sink>(&mut self, sink: &mut K) -> Result<(), FinishFault>
+        ensures ok { OnOk result (IsFinished self.old self.new
+            (channel K.contents K.has_failed sink.old sink.new)) }
+        ensures err { IfErr result (IsNotFinished self.old self.new
+            (channel K.contents K.has_failed sink.old sink.new)) }
+    {
+        if self.end_file().is_err() {
+            return Err(FinishFault::NoMemory);
+        }
+        if self.files.is_empty() {
+            return Err(FinishFault::NoFile);
+        }
+        match self.files.write(sink) {
+            Ok(()) => Ok(()),
+            Err(written) => Err(FinishFault::Write { written }),
+        }
+    }
+
+    /// Whether one more file may begin.
+    fn has_room(&self) -> bool
+        ensures { IsTrue result ↔ (file_count self.now < chain_limit) }
+    {
+        if self.is_open {
+            !self.files.is_nearly_full()
+        } else {
+            !self.files.is_full()
+        }
+    }
+
+    /// Ends the file that has begun, if there is one.
+    fn end_file(&mut self) -> Result<(), AllocError>
+        ensures ok { OnOk result (EndsFile self.old self.new) }
+        ensures err { OnErr result (self.new ≡ self.old) }
+    {
+        if !self.is_open {
+            return Ok(());
+        }
+        self.file.end(&mut self.files)?;
+        self.is_open = false;
+        Ok(())
+    }
+}

@@ -1,0 +1,156 @@
+//! Messages of `BOTH_ORDERS` that are put by themselves, and calls that are refused. Its blocks begin at 0, 32, 192, 248, 424 and 512: a
+//! header, a definition and a message of 1000000031, a definition and a message of 1000000034 by its time offset, and the end.
+use crate::asserts::{equal, equal_at};
+use crate::back::blocks_of;
+use crate::put::first_length;
+use fit_encode::CutSink;
+use fit_from_messages::BlockReason;
+use fit_writer::{FinishFault, MessageWriter, Refusal};
+use std::alloc::Global;
+use std::process::Abort;
+use test_known::{BOTH_ORDERS, DEVELOPER_FIELD};
+
+/// The second message by itself: a timestamp comes before its other fields, with the highest byte first as they have it.
+const SECOND_ALONE: [u8; 41] =
+    *b"\x0E\x20\0\0\x19\0\0\0.FIT\x5D\xE3\x41\0\x01\0\x14\x03\xFD\x04\x86\x02\x02\x84\x08\x03\x0D\
+    \x01\x3B\x9A\xCA\x22\x09\xC4\x64\0\x10\xD7\x19";
+
+/// Puts the second message of some blocks like those of `BOTH_ORDERS`.
+fn put_second(writer: &mut MessageWriter, blocks: &[u8]) -> Result<(), Refusal> {
+    writer.put_message(&blocks[248..424], &blocks[424..512])
+}
+
+/// A writer in which a file has begun, with the header of these blocks.
+fn begun(rt: &impl Abort, alloc: Global, blocks: &[u8]) -> MessageWriter {
+    let mut writer = MessageWriter::new(alloc);
+    equal(rt, &writer.begin_file(&blocks[0..32]), &Ok(()));
+    writer
+}
+
+/// Asserts that a writer writes these bytes.
+fn writes(rt: &impl Abort, writer: &mut MessageWriter, wanted: &[u8]) {
+    let mut sink = CutSink::<128>::new(128);
+    equal(rt, &writer.finish(&mut sink), &Ok(()));
+    equal(rt, &sink.bytes(), &wanted);
+}
+
+#[test]
+fn alone_it_gets_a_timestamp(rt: HostRuntime) {
+    let blocks = blocks_of(&rt, rt.alloc(), &BOTH_ORDERS);
+    let mut writer = begun(&rt, rt.alloc(), blocks.as_slice());
+    equal(&rt, &put_second(&mut writer, blocks.as_slice()), &Ok(()));
+    writes(&rt, &mut writer, &SECOND_ALONE);
+}
+
+#[test]
+fn after_the_other_it_keeps_its_offset(rt: HostRuntime) {
+    let blocks = blocks_of(&rt, rt.alloc(), &BOTH_ORDERS);
+    let mut writer = begun(&rt, rt.alloc(), blocks.as_slice());
+    let first = writer.put_message(&blocks[32..192], &blocks[192..248]);
+    equal(&rt, &first, &Ok(()));
+    equal(&rt, &put_second(&mut writer, blocks.as_slice()), &Ok(()));
+    writes(&rt, &mut writer, &BOTH_ORDERS);
+}
+
+#[test]
+fn a_sink_that_fails_loses_nothing(rt: HostRuntime) {
+    let blocks = blocks_of(&rt, rt.alloc(), &BOTH_ORDERS);
+    let mut writer = begun(&rt, rt.alloc(), blocks.as_slice());
+    equal(&rt, &put_second(&mut writer, blocks.as_slice()), &Ok(()));
+    for room in 0..41 {
+        let mut sink = CutSink::<128>::new(room);
+        let fault = FinishFault::Write {
+            written: room as u64,
+        };
+        equal_at(&rt, &writer.finish(&mut sink), &Err(fault), &room);
+        equal_at(&rt, &sink.bytes(), &&SECOND_ALONE[0..room], &room);
+    }
+    writes(&rt, &mut writer, &SECOND_ALONE);
+}
+
+#[test]
+fn nothing_before_a_file(rt: HostRuntime) {
+    let blocks = blocks_of(&rt, rt.alloc(), &BOTH_ORDERS);
+    let mut writer = MessageWriter::new(rt.alloc());
+    let put = writer.put_definition(&blocks[32..192]);
+    equal(&rt, &put, &Err(Refusal::NoFile));
+    let put = put_second(&mut writer, blocks.as_slice());
+    equal(&rt, &put, &Err(Refusal::NoFile));
+    let mut sink = CutSink::<128>::new(128);
+    equal(&rt, &writer.finish(&mut sink), &Err(FinishFault::NoFile));
+    equal(&rt, &sink.bytes().len(), &0);
+}
+
+/// Asserts why the second message is refused where bytes of the blocks have these values.
+fn refused_changed(rt: &impl Abort, alloc: Global, changes: &[(usize, u8)], why: Refusal) {
+    let mut blocks = blocks_of(rt, alloc, &BOTH_ORDERS);
+    for (place, value) in changes {
+        blocks[*place] = *value;
+    }
+    let mut writer = begun(rt, alloc, blocks.as_slice());
+    let put = put_second(&mut writer, blocks.as_slice());
+    equal_at(rt, &put, &Err(why), &changes.len());
+}
+
+#[test]
+fn each_reason(rt: HostRuntime) {
+    let alloc = rt.alloc();
+    for (place, value, why) in [
+        // A definition of a length that isn't its own, or of local message type 16.
+        (248, 0, Refusal::Block(BlockReason::Cut)),
+        (248 + 5, 16, Refusal::Block(BlockReason::Local)),
+        // A message that is an end, of offset 32, or of items past its block.
+        (424 + 4, 4, Refusal::Message(BlockReason::Kind)),
+        (424 + 7, 32, Refusal::Message(BlockReason::Offset)),
+        (248 + 48 + 12, 87, Refusal::Message(BlockReason::Items)),
+    ] {
+        refused_changed(&rt, alloc, &[(place, value)], why);
+    }
+    // The time of its header is the number that stands for none.
+    let none = [
+        (424 + 32, 0xFF),
+        (424 + 33, 0xFF),
+        (424 + 34, 0xFF),
+        (424 + 35, 0xFF),
+    ];
+    refused_changed(&rt, alloc, &none, Refusal::Time);
+}
+
+#[test]
+fn header_refused(rt: HostRuntime) {
+    let blocks = blocks_of(&rt, rt.alloc(), &BOTH_ORDERS);
+    let mut writer = MessageWriter::new(rt.alloc());
+    let begun = writer.begin_file(&blocks[32..192]);
+    let why = Refusal::Block(BlockReason::Kind);
+    equal(&rt, &begun, &Err(why));
+}
+
+/// The blocks of a definition and of a message of a file, by where they begin.
+fn part<'a>(blocks: &'a [u8], number: usize) -> &'a [u8] {
+    let mut rest = blocks;
+    for _ in 0..number {
+        let (_, after) = rest.split_at(first_length(rest));
+        rest = after;
+    }
+    let (block, _) = rest.split_at(first_length(rest));
+    block
+}
+
+#[test]
+fn developer_fields_want_their_definition(rt: HostRuntime) {
+    let blocks = blocks_of(&rt, rt.alloc(), &DEVELOPER_FIELD);
+    let mut writer = begun(&rt, rt.alloc(), blocks.as_slice());
+    let description = (part(blocks.as_slice(), 1), part(blocks.as_slice(), 4));
+    let message = (part(blocks.as_slice(), 6), part(blocks.as_slice(), 7));
+    let put = writer.put_message(message.0, message.1);
+    equal(&rt, &put, &Err(Refusal::Described));
+    // Without a description its definition says no name.
+    equal(&rt, &writer.put_definition(message.0), &Ok(()));
+    let put = writer.put_message(message.0, message.1);
+    equal(&rt, &put, &Err(Refusal::Described));
+    let put = writer.put_message(description.0, description.1);
+    equal(&rt, &put, &Ok(()));
+    equal(&rt, &writer.put_definition(message.0), &Ok(()));
+    let put = writer.put_message(message.0, message.1);
+    equal(&rt, &put, &Ok(()));
+}
