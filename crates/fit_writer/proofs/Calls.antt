@@ -1,5 +1,5 @@
 -- What calls of a writer do to all that was written, by what they do to the file that has begun.
-use Rattle.std.proofs.Common.{◌≡◌, ◌∙◌, ◌⊎◌, ℕ, inl, inr, Bool, true, false, List, [], ◌∷◌, ◌++◌, length, map, refl, sym, ap, subst, arith}
+use Rattle.std.proofs.Common.{◌≡◌, ◌∙◌, ℕ, inl, inr, Bool, true, false, List, [], ◌∷◌, length, map, refl, sym, ap, subst, arith}
 use Rattle.std.specs.Global.{Global}
 use Rattle.std.proofs.lemmas.List.{length-append}
 use Rattle.std.specs.Prelude.{◌+◌, ◌<◌, ◌≤◌, Option, Some, None, Result, Ok, Err, IfErr, IsTrue, OnOk, is_err, is_none, reverse, if◌then◌else◌}
@@ -13,20 +13,18 @@ use Rattle.fit_writer.specs.Finished.{IsFinished, IsNotFinished}
 use Rattle.fit_writer.specs.declared.refusal.FinishFault.TheVariants.{Write}
 use Rattle.fit_record.specs.declared.definition.MessageDef.{MessageDef}
 use Rattle.fit_record.specs.declared.file.FitFile.{FitFile}
-use Rattle.fit_record.specs.declared.message.Record.{Record}
 use Rattle.fit_record.specs.declared.message.Record.TheVariants.{Define}
 use Rattle.fit_from_messages.specs.Alone.{codes_in, why_no_lone_definition, why_no_lone_message, why_no_message_at}
 use Rattle.fit_from_messages.specs.Parts.{definition_in, dev_entries, entries_of, slots_in}
 use Rattle.fit_from_messages.specs.declared.alone.LoneDefinition.{LoneDefinition}
-use Rattle.fit_from_messages.specs.declared.fault.BlockReason.{BlockReason}
 use Rattle.fit_writer.proofs.LoneForms.{same_form}
 use Rattle.fit_writer.specs.Reading.{Form, entry_naming, entry_namings, form_in}
-use Rattle.fit_writer.specs.Written.{Current, EndsFile, IsDefinitionRefusal, IsEnded, IsMessageRefusal, KeepsAll, PutsDefinition, PutsMessage, Writing, data_length, file_count}
+use Rattle.fit_writer.specs.Written.{Current, EndsFile, IsDefinitionRefusal, IsEnded, IsMessageRefusal, KeepsAll, PutsMessage, Writing, file_count}
 use Rattle.fit_writer.specs.declared.file.OpenFile.{OpenFile}
 use Rattle.fit_writer.specs.declared.refusal.Refusal.{Refusal}
 use Rattle.fit_writer.specs.declared.refusal.Refusal.TheVariants.{NoFile, Block, Message, TooManyFiles, Full, Time, Described, TooLong, NoMemory}
-use Rattle.fit_writer.specs.inner.OpenFiles.{IsUnput, current_of, current_with, writing_of}
-use Rattle.fit_writer.specs.inner.Places.{IsLone, form_of}
+use Rattle.fit_writer.specs.inner.OpenFiles.{IsUnput, current_of, writing_of}
+use Rattle.fit_writer.specs.inner.Places.{form_of}
 use Rattle.fit_writer.specs.inner.Puts.{IsHalfPutInto, IsPutInto, IsRefusedPut}
 
 -- the form of a definition that was read is that of its block
@@ -49,6 +47,7 @@ keeps_all files old new f g block why same half = go why (subst (λ (h : Form). 
   where
     held : current_of new ≡ current_of old → writing_of files true new ≡ writing_of files true old
     held is = ap (λ (c : Current). let w : Writing = record { files = files; current = Some c } in w) is
+
     go : (why : Refusal) → IsHalfPutInto old new g block why → KeepsAll (writing_of files true old) (writing_of files true new) g block why
     go NoMemory (inl is) = inl (held is)
     go NoMemory (inr (after, puts, is)) =

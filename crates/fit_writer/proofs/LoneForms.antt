@@ -1,5 +1,5 @@
 -- Definitions that stand by themselves, and the bytes of their messages.
-use Rattle.std.proofs.Common.{◌≡◌, ◌∙◌, ℕ, ◌+◌, ◌<◌, ◌≤◌, Bool, true, false, cond, List, [], ◌∷◌, ◌++◌, length, map, refl, sym, ap, ap₂, subst, arith}
+use Rattle.std.proofs.Common.{◌≡◌, ◌∙◌, ℕ, ◌<◌, Bool, true, false, cond, List, [], ◌∷◌, ◌++◌, length, map, refl, sym, ap, ap₂, subst, arith}
 use Rattle.std.specs.Global.{Global}
 use Rattle.std.specs.List.{list_all}
 use Rattle.std.specs.Prelude.{Option, Some, None, zip, ◌&&◌, nat_le}
@@ -13,7 +13,6 @@ use Rattle.fit_record.specs.declared.message.Record.{Record}
 use Rattle.fit_record.specs.declared.message.Record.TheVariants.{Define, Values as Data}
 use Rattle.fit_record.specs.Environment.{Environment, defined_at, defined_by, dev_defs}
 use Rattle.fit_record.specs.Records.{DataHeaderFits, DefinitionFits, IsRecord, dev_layout, layout}
-use Rattle.fit_profile.proofs.KnownFacts.{just_defined}
 use Rattle.fit_profile.specs.Looks.{known}
 use Rattle.fit_profile.specs.Described.{Naming}
 use Rattle.fit_from_messages.specs.Alone.{lone_layout, message_with}

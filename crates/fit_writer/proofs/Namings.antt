@@ -1,6 +1,6 @@
 -- Names and units of developer fields.
-use Rattle.std.proofs.Common.{◌≡◌, ◌∙◌, ℕ, zero, suc, ◌+◌, ◌-◌, ◌<◌, ◌≤◌, List, [], ◌∷◌, length, map, take, drop, refl, sym, ap, ap₂, subst, arith, add-one}
-use Rattle.std.specs.Prelude.{Option, Some, None, slice_get, option_and_then}
+use Rattle.std.proofs.Common.{◌≡◌, ◌∙◌, ℕ, zero, suc, ◌+◌, ◌<◌, List, [], ◌∷◌, length, map, take, drop, refl, sym, ap, ap₂, subst, arith, add-one}
+use Rattle.std.specs.Prelude.{Option}
 use Rattle.fit_profile.specs.Described.{Naming}
 use Rattle.std.proofs.lemmas.List.{length-map}
 use Rattle.fit_from_messages.specs.Parts.{entries_of, number_read}

@@ -1,9 +1,9 @@
 -- The time of a message's own field.
-use Rattle.std.proofs.Common.{◌≡◌, ◌∙◌, ℕ, zero, suc, ◌+◌, ◌*◌, ◌<◌, ◌≤◌, Bool, true, false, cond}
-use Rattle.std.proofs.Common.{List, [], ◌∷◌, ◌++◌, length, map, take, drop, get_or, refl, sym, ap, subst, arith, add-one}
+use Rattle.std.proofs.Common.{◌≡◌, ℕ, zero, suc, ◌+◌, ◌*◌, ◌<◌, ◌≤◌, Bool, true, false, cond}
+use Rattle.std.proofs.Common.{List, [], ◌∷◌, ◌++◌, length, map, take, drop, get_or, refl, arith, add-one}
 use Rattle.std.specs.Global.{Global}
 use Rattle.std.specs.List.{list_all}
-use Rattle.std.specs.Prelude.{◌==◌, Option, Some, None, option_and_then}
+use Rattle.std.specs.Prelude.{◌==◌, Some, None, option_and_then}
 use Rattle.std.proofs.lemmas.Bool.{and_parts}
 use Rattle.std.proofs.lemmas.Bool.Decides.{nat_tests}
 use Rattle.fit_base.specs.BaseTypes.{item_width}
@@ -11,7 +11,7 @@ use Rattle.fit_base.specs.declared.items.Items.{Items}
 use Rattle.fit_record.specs.declared.definition.FieldDef.{FieldDef}
 use Rattle.fit_profile.specs.Looks.{first_field}
 use Rattle.fit_profile.specs.Times.{time_in_field}
-use Rattle.fit_from_messages.specs.Parts.{items_read, slot_stands}
+use Rattle.fit_from_messages.specs.Parts.{items_read}
 use Rattle.fit_from_messages.specs.Slots.{SlotsFit}
 use Rattle.fit_from_messages.specs.declared.slot.Slot.{Slot}
 use Rattle.fit_writer.specs.inner.Forms.{FieldsFit, first_time, slot_time}

@@ -1,26 +1,24 @@
 -- Messages that are put, as their readers are told them, and why others aren't put.
-use Rattle.std.proofs.Common.{◌≡◌, ◌∙◌, ◌⊎◌, ℕ, ◌<◌, ◌≤◌, ◌^◌, inl, inr, Bool, true, false}
-use Rattle.std.proofs.Common.{cond, List, [], ◌∷◌, length, map, drop, take, refl, sym, ap, subst, arith}
-use Rattle.std.proofs.lemmas.Bool.{eqb-true, ltb-false, ltb-true}
+use Rattle.std.proofs.Common.{◌≡◌, ◌∙◌, ℕ, ◌<◌, inl, inr, Bool, true, false}
+use Rattle.std.proofs.Common.{cond, List, [], ◌∷◌, length, map, refl, sym, ap, subst, arith}
+use Rattle.std.proofs.lemmas.Bool.{eqb-true}
 use Rattle.std.specs.Global.{Global}
-use Rattle.std.specs.Prelude.{Option, Some, None, IfSome, IsSomeAnd, is_some, nat_lt, nat_le, not, ◌&&◌, ◌==◌, unwrap_or}
-use Rattle.fit_base.specs.declared.items.Items.{Items}
+use Rattle.std.specs.Prelude.{Option, Some, None, IfSome, is_some, nat_lt, ◌==◌}
 use Rattle.fit_record.specs.declared.definition.MessageDef.{MessageDef}
 use Rattle.fit_record.specs.declared.environment.Defined.{Defined}
 use Rattle.fit_record.specs.declared.message.Record.{Record}
 use Rattle.fit_record.specs.declared.message.Record.TheVariants.{Define, Values as Data}
 use Rattle.fit_record.specs.Environment.{defined_at, dev_defs}
 use Rattle.fit_record.specs.Faults.{or_else}
-use Rattle.fit_record.specs.HeaderByte.{bit}
 use Rattle.fit_record.specs.Records.{DataHeaderFits}
 use Rattle.fit_profile.specs.Looks.{known}
 use Rattle.fit_profile.specs.Times.{header_time, previous_time, valid_time}
-use Rattle.fit_from_messages.specs.Parts.{byte_at, entries_of, number_read, offset_in}
+use Rattle.fit_from_messages.specs.Parts.{entries_of, number_read, offset_in}
 use Rattle.fit_from_messages.specs.declared.fault.BlockReason.{BlockReason}
 use Rattle.fit_writer.proofs.ReadThere.{none_long, read_there, same_after, says_own}
-use Rattle.fit_writer.specs.Reading.{Form, Reading, IsReadAs, dated, header_time_in}
-use Rattle.fit_writer.specs.Reading.{entry_naming, fields_time, reading_after, said_reading, timestamp_field, values_by}
-use Rattle.fit_writer.specs.Written.{CanName, IsNeeded, IsPlaced, IsPlaceRefusal, IsPut, KeepsOffset, NeedsTimestamp, SaysSame, data_length, with_definition, with_local}
+use Rattle.fit_writer.specs.Reading.{Form, Reading, dated, header_time_in}
+use Rattle.fit_writer.specs.Reading.{entry_naming, fields_time, said_reading, values_by}
+use Rattle.fit_writer.specs.Written.{IsNeeded, IsPlaced, IsPut, KeepsOffset, NeedsTimestamp, SaysSame, with_local}
 use Rattle.fit_writer.specs.declared.refusal.Refusal.{Refusal}
 use Rattle.fit_writer.specs.declared.refusal.Refusal.TheVariants.{NoFile, Block, Message, TooManyFiles, Full, Time, Described, TooLong, NoMemory}
 use Rattle.fit_writer.specs.inner.OpenFiles.{IsUnput}

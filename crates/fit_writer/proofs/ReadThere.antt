@@ -1,23 +1,20 @@
 -- What a reader is told of a message that is put.
-use Rattle.std.proofs.Common.{◌≡◌, ◌∙◌, ℕ, ◌<◌, List, [], ◌∷◌, length, map, refl, sym, ap, ap₂, subst, arith}
+use Rattle.std.proofs.Common.{◌≡◌, ◌∙◌, ℕ, ◌<◌, List, [], ◌∷◌, length, refl, sym, ap, arith}
 use Rattle.std.proofs.lemmas.List.{length-map}
 use Rattle.std.specs.Global.{Global}
-use Rattle.std.specs.Prelude.{Option, Some, None, option_map, option_and_then, zip}
-use Rattle.fit_base.specs.declared.items.Items.{Items}
-use Rattle.fit_record.specs.declared.definition.DevDef.{DevDef}
-use Rattle.fit_record.specs.declared.definition.FieldDef.{FieldDef}
+use Rattle.std.specs.Prelude.{Option, Some, None, option_map, option_and_then}
 use Rattle.fit_record.specs.declared.definition.MessageDef.{MessageDef}
 use Rattle.fit_record.specs.declared.environment.Defined.{Defined}
 use Rattle.fit_record.specs.declared.message.Record.{Record}
 use Rattle.fit_record.specs.declared.message.Record.TheVariants.{Define, Values as Data}
 use Rattle.fit_record.specs.declared.message.Values.{Values}
-use Rattle.fit_record.specs.Environment.{defined_at, defined_by, dev_defs}
+use Rattle.fit_record.specs.Environment.{defined_by, dev_defs}
 use Rattle.fit_record.specs.Faults.{or_else}
 use Rattle.fit_profile.proofs.KnownFacts.{just_defined, namings_long}
 use Rattle.fit_profile.specs.Described.{Naming, namings_at}
 use Rattle.fit_profile.specs.Looks.{known}
 use Rattle.fit_profile.specs.Times.{field_time, header_time, previous_time, time}
-use Rattle.fit_writer.specs.Reading.{Form, Reading, fields_time, reading_after, reading_by, values_by}
+use Rattle.fit_writer.specs.Reading.{Form, fields_time, reading_after, reading_by, values_by}
 use Rattle.fit_writer.specs.Written.{SaysSame, with_local}
 use Rattle.fit_writer.specs.inner.Puts.{told_after}
 

@@ -1,5 +1,5 @@
 -- What is written where a writer of messages finishes.
-use Rattle.std.specs.Prelude.{◌≡◌, false, List, [], None}
+use Rattle.std.specs.Prelude.{◌≡◌, false, [], None}
 use Rattle.std.specs.Io.KnownBytes.{Appends}
 use Rattle.fit_record.specs.Files.{IsChain, chain_bytes, chain_limit}
 use Rattle.fit_encode.specs.Faults.{StopsAt}

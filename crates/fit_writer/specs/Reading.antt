@@ -1,5 +1,5 @@
 -- What a reader is told of the messages of a file, and what it is told of a message that a block says.
-use Rattle.std.specs.Prelude.{◌≡◌, ◌⊎◌, ◌==◌, ◌&&◌, ℕ, Bool, false, nat_le, not, if◌then◌else◌, List, [], ◌∷◌, ◌++◌, length, map, take, drop, zip}
+use Rattle.std.specs.Prelude.{◌≡◌, ◌⊎◌, ◌==◌, ◌&&◌, ℕ, nat_le, not, if◌then◌else◌, List, [], ◌∷◌, ◌++◌, length, map, take, drop, zip}
 use Rattle.std.specs.Prelude.{Option, Some, None, option_map, unwrap_or}
 use Rattle.std.specs.Global.{Global}
 use Rattle.fit_base.specs.declared.items.Items.{Items}

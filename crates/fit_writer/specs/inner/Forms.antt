@@ -1,5 +1,5 @@
 -- What the code finds of a message before it is put. No public contract names these.
-use Rattle.std.specs.Prelude.{◌≡◌, ◌==◌, ◌*◌, ℕ, if◌then◌else◌, List, [], ◌∷◌, Option, Some, None, option_and_then, slice_get}
+use Rattle.std.specs.Prelude.{◌≡◌, ◌==◌, ◌*◌, ℕ, if◌then◌else◌, List, [], ◌∷◌, Option, None, option_and_then, slice_get}
 use Rattle.fit_base.specs.BaseTypes.{item_width}
 use Rattle.fit_record.specs.declared.definition.FieldDef.{FieldDef}
 use Rattle.fit_profile.specs.Described.{Naming}

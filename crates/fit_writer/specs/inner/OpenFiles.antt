@@ -1,5 +1,5 @@
 -- Files that have begun, as the code keeps them. No public contract names these.
-use Rattle.std.specs.Prelude.{◌≡◌, ◌⊎◌, ◌∷◌, ◌+◌, ◌<◌, ◌≤◌, ◌^◌, ℕ, Bool, true, if◌then◌else◌, List, length, reverse, Option, Some, None}
+use Rattle.std.specs.Prelude.{◌≡◌, ◌⊎◌, ◌∷◌, ◌+◌, ◌<◌, ◌≤◌, ◌^◌, ℕ, Bool, true, if◌then◌else◌, List, length, reverse, Some, None}
 use Rattle.std.specs.Global.{Global}
 use Rattle.fit_frame.specs.Header.{FormFits}
 use Rattle.fit_record.specs.declared.file.FitFile.{FitFile}

@@ -1,8 +1,6 @@
 -- Forms as the code has them. No public contract names these.
-use Rattle.std.specs.Prelude.{◌≡◌, ◌<◌, true, ℕ, List, length, map}
+use Rattle.std.specs.Prelude.{◌≡◌, true, length, map}
 use Rattle.std.specs.List.{list_all}
-use Rattle.std.specs.Global.{Global}
-use Rattle.fit_record.specs.declared.definition.MessageDef.{MessageDef}
 use Rattle.fit_record.specs.Environment.{dev_defs}
 use Rattle.fit_record.specs.Records.{DefinitionFits}
 use Rattle.fit_from_messages.specs.Alone.{lone_layout}

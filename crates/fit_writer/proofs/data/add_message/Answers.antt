@@ -1,4 +1,3 @@
-use Rattle.std.proofs.Common.{rules}
 use Rattle.fit_record.specs.declared.message.Record.TheVariants.{Values as Data}
 use Rattle.fit_writer.proofs.Grown.{are_more}
 use Rattle.fit_writer.proofs.data.add_message.Goals as goal

@@ -1,4 +1,4 @@
-use Rattle.std.proofs.Common.{rules, arith, ◌≡◌, ◌∙◌, ◌+◌, ◌-◌, ◌∷◌, ◌≤◌, length, refl, take, drop}
+use Rattle.std.proofs.Common.{arith, ◌≡◌, ◌∙◌, ◌+◌, ◌-◌, ◌∷◌, refl, take, drop}
 use Rattle.fit_profile.specs.Described.{namings_at}
 use Rattle.fit_from_messages.proofs.CutEntries.{first_stands, long_bytes, long_entry, one_more, others_stand}
 use Rattle.fit_from_messages.specs.Parts.{entries_of, number_read}

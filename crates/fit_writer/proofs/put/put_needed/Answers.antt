@@ -1,7 +1,4 @@
-use Rattle.std.proofs.Common.{◌≡◌, ◌<◌, ℕ, List, ◌∷◌, refl, sym, subst}
-use Rattle.std.specs.Global.{Global}
-use Rattle.fit_record.specs.declared.environment.Defined.{Defined}
-use Rattle.fit_record.specs.declared.message.Record.{Record}
+use Rattle.std.proofs.Common.{◌∷◌, refl}
 use Rattle.fit_record.specs.declared.message.Record.TheVariants.{Define, Values as Data}
 use Rattle.fit_record.specs.Environment.{dev_defs}
 use Rattle.fit_writer.proofs.Ends.{err_half, err_unplaced, ok_told}

@@ -1,4 +1,4 @@
-use Rattle.std.proofs.Common.{◌≡◌, ◌∙◌, ◌+◌, Bool, cond, drop, get_or, ap}
+use Rattle.std.proofs.Common.{◌∙◌, ◌+◌, Bool, cond, drop, get_or, ap}
 use Rattle.fit_record.specs.declared.definition.FieldDef.{FieldDef}
 use Rattle.fit_from_messages.specs.declared.slot.Slot.{Slot}
 use Rattle.fit_writer.proofs.OwnTimes.{at_place, not_timestamp, walked}

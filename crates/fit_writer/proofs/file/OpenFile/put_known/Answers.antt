@@ -1,6 +1,5 @@
-use Rattle.std.proofs.Common.{rules, ◌≡◌, ◌∙◌, List, ℕ, take, ap, sym, subst, Some}
+use Rattle.std.proofs.Common.{rules, ◌≡◌, List, ℕ, take, ap, sym, subst, Some}
 use Rattle.std.specs.Global.{Global}
-use Rattle.fit_record.specs.declared.environment.Defined.{Defined}
 use Rattle.fit_record.specs.declared.message.Record.{Record}
 use Rattle.fit_record.specs.declared.message.Record.TheVariants.{Values as Data}
 use Rattle.fit_record.specs.declared.message.Values.{Values}

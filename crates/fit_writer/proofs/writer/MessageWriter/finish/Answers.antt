@@ -1,6 +1,5 @@
-use Rattle.std.proofs.Common.{◌∙◌, ap, sym}
+use Rattle.std.proofs.Common.{ap}
 use Rattle.fit_decode.specs.Reads.{channel}
-use Rattle.fit_record.specs.Files.{IsWellFormedChain, chain_limit}
 use Rattle.fit_writer.proofs.Calls.{chain_is, ended_ok, finish_ok, finish_write, some_files}
 use Rattle.fit_writer.specs.Written.{EndsFile, Writing}
 use Rattle.fit_writer.proofs.writer.MessageWriter.finish.Goals as goal
@@ -15,8 +14,9 @@ returns-clause-ok g c =
     c.is_empty.ensures.1) c.write.ensures.whole in
     let same = ap (λ (w : Writing). w.files) c.self.view_is in
     elim c.match-write.branch [
-    in-Ok w ↦ rw w.result-is (finish_ok c.args.self.now c.end_file.new.self sink c.self.inside.files same ends chain w.in-Ok.ensures.ok w.in-Ok.ensures.works)
-    | in-Err w ↦ rw w.result-is tt ]
+      | in-Ok w ↦ rw w.result-is (finish_ok c.args.self.now c.end_file.new.self sink c.self.inside.files same ends chain w.in-Ok.ensures.ok w.in-Ok.ensures.works)
+      | in-Err w ↦ rw w.result-is tt
+    ]
 
 pub returns-clause-err : goal.returns-clause-err
 returns-clause-err g c =
@@ -27,6 +27,7 @@ returns-clause-err g c =
     c.is_empty.ensures.1) c.write.ensures.whole in
     let same = ap (λ (w : Writing). w.files) c.self.view_is in
     elim c.match-write.branch [
-    in-Ok w ↦ rw w.result-is tt
-    | in-Err w ↦ rw w.result-is
-    (finish_write c.args.self.now c.end_file.new.self sink c.self.inside.files w.in-Err.written same ends chain w.in-Err.ensures.err) ]
+      | in-Ok w ↦ rw w.result-is tt
+      | in-Err w ↦ rw w.result-is
+          (finish_write c.args.self.now c.end_file.new.self sink c.self.inside.files w.in-Err.written same ends chain w.in-Err.ensures.err)
+    ]
