@@ -162,6 +162,9 @@ class Ready(unittest.TestCase):
         data = written(lambda out: out.write("sport", name=text))
         (line,) = [message.to_json() for message in gazhdor.messages(data)]
         self.assertEqual((len(line.splitlines()), json.loads(line)["fields"]["name"]), (1, text))
+        lap = next(gazhdor.messages(RIDE, only="lap"))
+        fields = json.loads(lap.to_json(ready=True))["fields"]
+        self.assertEqual((fields["start_time"], fields["total_distance"]), ("2026-05-17T07:30:00Z", 8558.46))
 
 
 class Adding(unittest.TestCase):

@@ -29,7 +29,7 @@ from .._write.words import numbered
 from .blocks import Run
 from .cells import merged
 from .fields import Field
-from .json_lines import line
+from .json_lines import line, ready_line
 from .readers import Number, Value
 from .ready import ready
 from .times import time_of
@@ -340,9 +340,10 @@ class Message(Mapping[Key, Any]):
         know, and a float that is no finite number, are None."""
         return ready(self)
 
-    def to_json(self) -> str:
-        """Returns the message as a line of JSON, as the command `json` writes it, without its end."""
-        return line(self)
+    def to_json(self, ready: bool = False) -> str:
+        """Returns the message as a line of JSON, without its end, as the command `json` writes it; with `ready` its
+        values are those of `ready`, and times are texts."""
+        return ready_line(self) if ready else line(self)
 
     def __repr__(self) -> str:
         return f"<gazhdor.Message {self.name or self.number}: {self.as_dict()}>"

@@ -1,6 +1,6 @@
 """A part of a recording: the messages of a span of time, and what says of them what they come to."""
 from collections.abc import Callable
-from typing import NamedTuple, Optional, Union
+from typing import Any, NamedTuple, Optional, Union
 
 from .._names import EXTRA
 from .._read.messages import Message
@@ -82,6 +82,9 @@ class Part:
         self._time: Optional[int] = None
         self._is_later = False
         self._odometer: Optional[Odometer] = None
+        # the laps and sessions that stay as they are, by their numbers; and of each sport whether a session stays
+        self._wholes: Optional[set[tuple[int, Any]]] = None
+        self._sports: Optional[dict[Any, bool]] = None
         self._made: Optional[dict[int, Optional[Anew]]] = None
 
     def _overlaps(self, message: Message) -> bool:
@@ -123,7 +126,7 @@ class Part:
         if number in _STAYS:
             return message
         self._time = message.seconds if message.seconds is not None else self._time
-        if number in (LAP, SESSION, SPORT, ACTIVITY):
+        if number in (SPORT, ACTIVITY) or number in (LAP, SESSION) and span_of(message):
             made = self._of_summaries()
             return made.get(message.place) if message.place in made else message
         if number == _ZONES and not self._is_of_whole(message):
@@ -146,9 +149,10 @@ class Part:
 
     def _is_of_whole(self, message: Message) -> bool:
         """Whether the lap or the session that a message is of stays as it is."""
-        told = self._outline.of.get(message.get(0) or 0, [])
-        of = [other for other in told if other.get("message_index") == message.get(1)]
-        return bool(of) and self._span.has_all(*(span_of(of[0]) or (0, 0)))
+        if self._wholes is None:
+            told = (*self._outline.of[LAP], *self._outline.of[SESSION])
+            self._wholes = {(of.number, of.get("message_index")) for of in told if self._is_whole(of)}
+        return (message.get(0), message.get(1)) in self._wholes
 
     # ---- what is made anew
 
@@ -228,11 +232,15 @@ class Part:
 
     def _has_sport(self, number: int, message: Message) -> bool:
         """Whether a session stays that has this sport: the one with its number, where there is one for each."""
-        sessions, sports = self._outline.of[SESSION], self._outline.of[SPORT]
-        if len(sessions) == len(sports):
+        sessions = self._outline.of[SESSION]
+        if len(sessions) == len(self._outline.of[SPORT]):
             return self._is_in(sessions[number])
-        alike = [session for session in sessions if sport_of(session) == sport_of(message)]
-        return not alike or any(map(self._is_in, alike))
+        if self._sports is None:
+            self._sports = {}
+            for session in sessions:
+                sport = tuple(sport_of(session).items())
+                self._sports[sport] = self._sports.get(sport, False) or self._is_in(session)
+        return self._sports.get(tuple(sport_of(message).items()), True)
 
     def _activity(self, made: dict[int, Optional[Anew]], told: Message) -> Anew:
         stay = [(of, made.get(of.place)) for of in self._outline.of[SESSION] if made.get(of.place, of) is not None]

@@ -72,7 +72,7 @@ class _Described:
             return
         definition.made["joined"] = message.file
         for entry in definition.entries:
-            if entry.index is not None and entry.key in self._before - self._here:
+            if entry.index is not None and entry.key in self._before and entry.key not in self._here:
                 what = f"file {number} doesn't describe its developer field {label(entry.key)}"
                 raise ValueError(f"{what}, and would get the name and the type of one of a file before it")
 

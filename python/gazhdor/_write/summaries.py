@@ -1,4 +1,6 @@
 """What the records of a ride say as a whole, and what a file says of itself: its sessions, its laps, its activity."""
+import bisect
+import itertools
 import math
 from collections.abc import Iterable
 from typing import Any, NamedTuple, Optional
@@ -13,6 +15,7 @@ LAP, SESSION, RECORD, EVENT, SPORT, ACTIVITY = 19, 18, 20, 21, 12, 34
 # Numbers of the profile: events, their types, and what ends a lap.
 _TIMER, _OF_SESSION, _OF_LAP, _OF_ACTIVITY = 0, 8, 9, 26
 START, STOP, STOPS = 0, 1, (1, 4, 8, 9)
+_EVER = 1 << 40  # more seconds than a file can tell
 LAP_ENDS = {"event": _OF_LAP, "event_type": STOP, "lap_trigger": 7}
 SESSION_ENDS = {"event": _OF_SESSION, "event_type": STOP, "trigger": 0}
 _MEANS = ("heart_rate", "cadence", "power")
@@ -25,22 +28,39 @@ class Timer:
 
     def __init__(self) -> None:
         self._events: list[tuple[int, int]] = []
+        # of each time in which it ran the beginning and the end, and how long it ran before
+        self._ran: Optional[tuple[list[int], list[int], list[int]]] = None
 
     def take(self, message: Message) -> None:
         if message.get(0) == _TIMER and message.seconds is not None and message.get(1) in (START, *STOPS):
             self._events.append((message.seconds, message[1]))
+            self._ran = None
+
+    def _found(self) -> tuple[list[int], list[int], list[int]]:
+        if self._ran is None:
+            begins: list[int] = []
+            ends: list[int] = []
+            events = sorted(self._events, key=lambda event: event[0])
+            since: Optional[int] = None if events and events[0][1] == START else -_EVER
+            for time, kind in (*events, (_EVER, STOP)):
+                if kind == START:
+                    since = time if since is None else since
+                elif since is not None:
+                    begins.append(since)
+                    ends.append(time)
+                    since = None
+            before = [0, *itertools.accumulate(end - begin for begin, end in zip(begins, ends))]
+            self._ran = begins, ends, before
+        return self._ran
+
+    def _up_to(self, time: int) -> int:
+        begins, ends, before = self._found()
+        at = bisect.bisect_right(begins, time)
+        return before[at] - max(0, ends[at - 1] - time) if at else 0
 
     def ran(self, start: int, end: int) -> int:
         """How long it ran from a second to another one."""
-        total = 0
-        since: Optional[int] = start if not self._events or self._events[0][1] != START else None
-        for time, kind in self._events:
-            time = min(max(time, start), end)
-            if kind == START:
-                since = time if since is None else since
-            elif since is not None:
-                total, since = total + time - since, None
-        return total + (end - since if since is not None else 0)
+        return self._up_to(end) - self._up_to(start)
 
 
 class Summary:
