@@ -26,7 +26,7 @@ export const COMMANDS = {
     },
 }
 /* What the command of Python has besides. */
-const ELSEWHERE = ["gpx", "edit", "join"]
+const ELSEWHERE = ["gpx", "edit", "join"], OPTIONS_ELSEWHERE = { json: ["--extra", "--names"], mend: ["--whole"] }
 const SAYS = {
     recursive: ["-r, --recursive", "read the FIT files in folders, too"],
     output: ["-o, --output OUT", "write to this file"],
@@ -49,6 +49,8 @@ const usage = name => `usage: gazhdor ${name} ${COMMANDS[name].words}`
 
 /* What the words after a command say: its options by their names, and the files. */
 export function parsed(name, words) {
+    const missing = OPTIONS_ELSEWHERE[name]?.find(option => words.some(word => word.split("=")[0] === option))
+    if (missing !== undefined) throw new Usage(`${missing} isn't in the command for Node yet: that of Python has it`)
     try {
         const { values, positionals } = parseArgs({ args: words, options: { ...COMMANDS[name].options, ...HELP }, allowPositionals: true })
         return { ...values, files: positionals }

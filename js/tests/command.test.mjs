@@ -72,8 +72,9 @@ test("each command has its help", () => {
 })
 
 test("words that aren't understood", () => {
-    const cases = [[[], "--help"], [["frob"], "no command 'frob'"], [["check", "--frob"], "--frob"], [["mend", "a", "b", "c"], "IN"], [["table", "-o"], "-o"],
-        [["gpx", PATH], "isn't in the command for Node yet"], [["edit"], "isn't in the command for Node yet"], [["json", "--extra"], "--extra"]]
+    const cases = [[[], "--help"], [["frob"], "no command 'frob'"], [["check", "--frob"], "--frob"], [["mend", "a", "b", "c"], "IN"],
+        [["table", "-o"], "-o"], [["gpx", PATH], "isn't in the command for Node yet"], [["edit"], "isn't in the command for Node yet"],
+        [["json", "--names=a"], "--names isn't in"], [["mend", "--whole"], "--whole isn't in"]]
     for (const [words, part] of cases) {
         const { status, said, faults } = command(words)
         assert.deepEqual([status, said], [2, ""], words.join(" "))

@@ -306,8 +306,8 @@ class Json(unittest.TestCase):
         found, _ = self.lines(BYTES)
         self.assertEqual(len(found), len(list(gazhdor.messages(BYTES))))
         self.assertEqual(found[1], {"message": "message_31", "number": 31, "file": 1, "place": 159, "local": 1,
-            "time": None, "fields": {"field_5": "Lake loop", "field_4": 0}, "units": {}})
-        for line, message in zip(found, gazhdor.messages(BYTES)):
+            "time": None, "fields": {"field_5": "Lake loop", "field_4": "generic"}, "units": {}})
+        for line, message in zip(found, gazhdor.messages(BYTES, words=True)):
             self.assertEqual((line["place"], line["fields"], line["time"] or ""),
                 (message.place, message.as_dict(), as_text(message.time)))
             self.assertEqual(line["units"], {label_of(field): field.unit for field in message.fields if field.unit})

@@ -19,7 +19,8 @@ import zipfile
 from support import BYTES, RIDE, VERSION, bytes_at, folder, in_tree, left_out, text_at
 
 import gazhdor
-from gazhdor._command.archives import MOST, NotUnpacked
+from gazhdor._command.archives import MOST
+from gazhdor._command.faults import NotUnpacked
 from gazhdor._command.inputs import Input
 from gazhdor._command.kinds import kind_of
 from gazhdor._command.parsing import COMMANDS, parser_of

@@ -6,18 +6,11 @@ import zlib
 from typing import Any
 
 from .._sources import PIECE
+from .faults import NoFitFile, NotUnpacked
 
 MOST = 1 << 28  # A file may unpack to so many bytes, and a zip file from a pipe may have so many.
 _LONGEST_LIST = 1 << 20  # So many bytes the list of a zip file's files may have.
 _STORED, _DEFLATED, _ENCRYPTED = 0, 8, 1
-
-
-class NotUnpacked(ValueError):
-    """A gzip or zip file of which nothing can be read, or not all. It says why."""
-
-
-class NoFitFile(NotUnpacked):
-    """A zip file without any FIT file."""
 
 
 class _Bounded:

@@ -9,8 +9,9 @@ from .. import check, mend
 from .._sources import bytes_of
 from .._write.edits import Change, change
 from .._write.joins import join
+from .faults import NotWritten, Usage
 from .inputs import Input, Path, opened
-from .outputs import NotWritten, Usage, see_no_terminal
+from .outputs import see_no_terminal
 from .progress import Progress, shown
 
 

@@ -6,7 +6,7 @@ import sys
 from collections.abc import Iterator
 from typing import Any, NamedTuple, Optional
 
-from .archives import NoFitFile, gunzipped, unzipped
+from .faults import NoFitFile
 from .kinds import FRONT, kind_of
 from .progress import Progress
 
@@ -72,6 +72,8 @@ class Input:
         begin = self._begin(file)
         self._file = file
         if packed and begin in (_GZIP, _ZIP):
+            from .archives import gunzipped, unzipped  # which takes a while, and is seldom needed
+
             progress.forget_size()
             self._file = gunzipped(_After(begin, file)) if begin == _GZIP else unzipped(file, begin)
             self._before = b""

@@ -3,15 +3,8 @@ import os
 import sys
 from typing import Any, Optional
 
+from .faults import NotWritten, Usage
 from .progress import Progress, shown
-
-
-class NotWritten(Exception):
-    """The output failed, and not what is read."""
-
-
-class Usage(ValueError):
-    """The words of the command line can't be followed."""
 
 
 def see_no_terminal(command: str, output: Optional[str]) -> None:

@@ -4,7 +4,7 @@ import re
 from typing import Any, NamedTuple, NoReturn, Optional
 
 from .._write.edits import time_of
-from .outputs import Usage
+from .faults import Usage
 
 
 class Command(NamedTuple):

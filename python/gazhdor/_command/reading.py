@@ -12,9 +12,9 @@ from .._read.gpx_parts import parts
 from .._read.json_lines import line, ready_line
 from .._read.streams import each, messages
 from .._sources import bytes_of
-from .archives import NotUnpacked
+from .faults import NotUnpacked, Usage
 from .inputs import Input, Path, is_passed_over, opened, paths_of
-from .outputs import Output, Usage, see_no_terminal, see_other_files
+from .outputs import Output, see_no_terminal, see_other_files
 from .progress import Progress, shown
 
 _TEXTS = {"show": "show", "to-csv": "to_csv", "table": "table"}

@@ -4,9 +4,8 @@ import os
 import sys
 
 from .. import FitError, __version__
-from .archives import NotUnpacked
 from .changing import Sources, run_edit, run_join, run_mend
-from .outputs import NotWritten, Usage
+from .faults import NotUnpacked, NotWritten, Usage
 from .parsing import parsed, parser_of, usage_of, wanted
 from .progress import Progress, shown
 from .reading import run_reader
