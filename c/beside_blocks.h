@@ -161,9 +161,9 @@ static int raw_of(const gazhdor_field *field, const gazhdor_block *message, size
         return 0;
     switch (field->width) {
     case 1: *raw = items[k]; break;
-    case 2: memcpy(raw, items + 2 * k, 2); break;
-    case 4: memcpy(raw, items + 4 * k, 4); break;
-    case 8: memcpy(raw, items + 8 * k, 8); break;
+    case 2: *raw = gazhdor_number(items + 2 * k, 2); break;
+    case 4: *raw = gazhdor_number(items + 4 * k, 4); break;
+    case 8: *raw = gazhdor_number(items + 8 * k, 8); break;
     default: return 0;
     }
     uint64_t sign = field->kind == GAZHDOR_SIGNED ? (uint64_t)1 << (8 * field->width - 1) : 0;

@@ -76,14 +76,41 @@ typedef struct gazhdor_field {
     size_t end; /* where the next one is described in the block of the definition */
 } gazhdor_field;
 
+/* Numbers of 1 to 8 bytes are in little endian in blocks, and on each machine. */
+#if defined __BYTE_ORDER__ && __BYTE_ORDER__ == __ORDER_BIG_ENDIAN__
+static inline uint64_t gazhdor_number(const uint8_t *from, size_t width)
+{
+    uint64_t number = 0;
+    while (width-- > 0)
+        number = number << 8 | from[width];
+    return number;
+}
+
+static inline void gazhdor_store(uint8_t *at, uint64_t number, size_t width)
+{
+    for (size_t k = 0; k < width; k++)
+        at[k] = GAZHDOR_CAST(uint8_t, number >> 8 * k & 0xFF);
+}
+#else
+static inline uint64_t gazhdor_number(const uint8_t *from, size_t width)
+{
+    uint64_t number = 0;
+    memcpy(&number, from, width);
+    return number;
+}
+
+static inline void gazhdor_store(uint8_t *at, uint64_t number, size_t width)
+{
+    memcpy(at, &number, width);
+}
+#endif
+
 /* A number of 1 to 8 bytes in a block, by docs/BLOCKS.md; 0 where the block ends before. */
 static inline uint64_t gazhdor_load(gazhdor_block block, uint64_t at, size_t width)
 {
-    uint64_t number = 0;
     if (width == 0 || width > 8 || at > block.length || width > block.length - at)
         return 0;
-    memcpy(&number, block.bytes + at, width);
-    return number;
+    return gazhdor_number(block.bytes + at, width);
 }
 
 /* The first of some blocks; none where there isn't a whole one. */

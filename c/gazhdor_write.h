@@ -168,11 +168,6 @@ static inline gazhdor_block gazhdor_block_at(const gazhdor_writer *to, size_t pl
     return gazhdor_first(rest);
 }
 
-static inline void gazhdor_store(uint8_t *at, uint64_t number, size_t width)
-{
-    memcpy(at, &number, width);
-}
-
 /* A new block at the end, of zeros but for its length, its kind and its file; NULL where there is no room. */
 static inline uint8_t *gazhdor_new_block(gazhdor_writer *to, size_t length, uint32_t kind)
 {

@@ -103,11 +103,14 @@ static void put_string(gazhdor_field field, gazhdor_block message)
 /* The bits of a float; gazhdor_value gives the number that has them. Of those that are no number it gives none. */
 static void put_float(gazhdor_field field, gazhdor_block message, size_t k)
 {
-    uint64_t raw, bits = 0;
+    uint64_t raw, bits;
+    uint32_t few;
     double wide = gazhdor_value(field, message, k);
     float narrow = (float)wide;
     gazhdor_raw(field, message, k, &raw);
-    memcpy(&bits, field.width == 8 ? (void *)&wide : (void *)&narrow, field.width);
+    memcpy(&bits, &wide, 8);
+    memcpy(&few, &narrow, 4);
+    bits = field.width == 8 ? bits : few;
     printf("0x%0*llX%s", 2 * field.width, (unsigned long long)raw, bits == raw || isnan(wide) ? "" : " has another value");
 }
 
