@@ -1,5 +1,9 @@
 /* Says what the library answers: any [-d COUNT] FILE.. makes each call on each file, on its text and its blocks, on COUNT damaged copies of each,
- * and on pieces of each, and writes each answer and all bytes that were made to standard output. So two libraries are compared by `cmp`. */
+ * and on pieces of each, and writes each answer and all bytes that were made to standard output. So two libraries are compared by `cmp`. Of a
+ * long file it makes only the text, and the file again.
+ *
+ * With REFUSES it also makes each call on each file with memory refused from each place on, and says where the answer is wrong. The library's
+ * malloc and realloc have to come through here for that: -Wl,--wrap=malloc,--wrap=realloc. */
 #include "gazhdor.h"
 
 #include <stdio.h>
@@ -10,7 +14,7 @@
 #include <io.h>
 #endif
 
-enum { DAMAGED_AT_MOST = 100000 };
+enum { REFUSED_AT_MOST = 4000, LONG = 50000 };
 
 /* ---- numbers that are the same on every machine */
 
@@ -113,6 +117,14 @@ static void say_all(const uint8_t *bytes, size_t length)
         say_pieces(bytes, length, kind);
 }
 
+/* Memory grows past a megabyte here. */
+static void say_long(const uint8_t *bytes, size_t length)
+{
+    gazhdor_text csv = made("to_csv", gazhdor_to_csv, bytes, length);
+    gazhdor_free(made("from_csv", gazhdor_from_csv, csv.bytes, csv.length));
+    gazhdor_free(csv);
+}
+
 /* A copy with up to three other bytes, which may end too soon. */
 static void say_damaged(const uint8_t *bytes, size_t length)
 {
@@ -126,6 +138,89 @@ static void say_damaged(const uint8_t *bytes, size_t length)
     say_all(damaged, below(3) == 0 && length > 0 ? below(length) : length);
     free(damaged);
 }
+
+/* ---- memory that is refused */
+
+#ifdef REFUSES
+void *__real_malloc(size_t bytes);
+void *__real_realloc(void *block, size_t bytes);
+static long granted = -1; /* how many more blocks there are; -1: any number */
+static int refused;
+
+static int is_refused(void)
+{
+    refused |= granted == 0;
+    if (granted > 0)
+        granted--;
+    return granted == 0 && refused;
+}
+
+void *__wrap_malloc(size_t bytes) { return is_refused() ? NULL : __real_malloc(bytes); }
+void *__wrap_realloc(void *block, size_t bytes) { return is_refused() ? NULL : __real_realloc(block, bytes); }
+
+/* A stream that is opened, fed and finished; the answer is the first that isn't good. */
+static gazhdor_answer streamed(const uint8_t *bytes, size_t length, gazhdor_text *text)
+{
+    gazhdor_stream stream = GAZHDOR_CLOSED_STREAM;
+    gazhdor_text rest = GAZHDOR_NO_TEXT;
+    gazhdor_answer answer = gazhdor_open(&stream, GAZHDOR_STREAM_TO_CSV);
+    if (answer.status == GAZHDOR_GOOD)
+        answer = gazhdor_feed(&stream, bytes, length, text);
+    gazhdor_answer last = answer.status == GAZHDOR_GOOD ? gazhdor_finish(&stream, &rest) : answer;
+    if (answer.status == GAZHDOR_NO_MEMORY && stream.at != NULL && gazhdor_finish(&stream, &rest).status != GAZHDOR_NO_MEMORY)
+        printf("a stream goes on after memory was refused\n");
+    gazhdor_free(rest);
+    gazhdor_close(&stream);
+    return last;
+}
+
+static gazhdor_answer checked(const uint8_t *bytes, size_t length, gazhdor_text *text)
+{
+    (void)text;
+    return gazhdor_check(bytes, length);
+}
+
+/* Memory is refused from each block on that a call asks for, until there is enough of it. */
+static void refuse(const char *name, call *of, const uint8_t *bytes, size_t length)
+{
+    gazhdor_text text = GAZHDOR_NO_TEXT;
+    const gazhdor_answer wanted = of(bytes, length, &text);
+    gazhdor_free(text);
+    for (long n = 0; n == 0 || refused; n++) {
+        gazhdor_text some_text = GAZHDOR_NO_TEXT;
+        refused = 0;
+        granted = n;
+        gazhdor_answer answer = of(bytes, length, &some_text);
+        granted = -1;
+        if (answer.status != (refused ? (uint32_t)GAZHDOR_NO_MEMORY : wanted.status))
+            printf("%s with memory for %ld blocks: status %u\n", name, n, (unsigned)answer.status);
+        gazhdor_free(some_text);
+    }
+}
+
+static void refuse_all(const uint8_t *bytes, size_t length)
+{
+    gazhdor_text csv = GAZHDOR_NO_TEXT, blocks = GAZHDOR_NO_TEXT;
+    gazhdor_to_csv(bytes, length, &csv);
+    gazhdor_messages(bytes, length, &blocks);
+    refuse("check", checked, bytes, length);
+    refuse("table", gazhdor_table, bytes, length);
+    refuse("show", gazhdor_show, bytes, length);
+    refuse("to_csv", gazhdor_to_csv, bytes, length);
+    refuse("messages", gazhdor_messages, bytes, length);
+    refuse("from_csv", gazhdor_from_csv, csv.bytes, csv.length);
+    refuse("from_messages", gazhdor_from_messages, blocks.bytes, blocks.length);
+    refuse("a stream", streamed, bytes, length);
+    gazhdor_free(csv);
+    gazhdor_free(blocks);
+}
+#else
+static void refuse_all(const uint8_t *bytes, size_t length)
+{
+    (void)bytes;
+    (void)length;
+}
+#endif
 
 static uint8_t *bytes_of(const char *path, size_t *length)
 {
@@ -159,8 +254,13 @@ int main(int argc, char **argv)
         size_t length;
         uint8_t *bytes = bytes_of(argv[k], &length);
         printf("file %d\n", k);
-        say_all(bytes, length);
-        for (int round = 0; round < damage && length < DAMAGED_AT_MOST; round++)
+        if (length < LONG)
+            say_all(bytes, length);
+        else
+            say_long(bytes, length);
+        if (length < REFUSED_AT_MOST)
+            refuse_all(bytes, length);
+        for (int round = 0; round < damage && length < LONG; round++)
             say_damaged(bytes, length);
         free(bytes);
     }
