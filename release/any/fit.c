@@ -25,7 +25,12 @@
 #include "words.h"
 
 enum { GOOD = 0, REFUSED = 1, BAD_USAGE = 2, NO_MEMORY = 3, FAILED = 4 };
-enum { INPUT = 65536, OUTPUT = 8192, AT_ONCE = 1 << 30 };
+enum { INPUT = 65536, OUTPUT = 8192 };
+#ifdef _WIN32
+enum { AT_ONCE = 32768 }; /* older consoles take no more */
+#else
+enum { AT_ONCE = 1 << 30 };
+#endif
 
 static const char usage[] = "usage: fit check|show|to-csv|from-csv|table [FILE]\n";
 
