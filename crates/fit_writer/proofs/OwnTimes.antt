@@ -31,7 +31,8 @@ first_is block (f ∷ fields) [] fit = absurd fit
 first_is block (f ∷ fields) (s ∷ slots) fit = go (first_is block fields slots fit.2) (f.number == 253)
   where
     go : option_and_then (λ (f : FieldDef × Items Global). time_in_field f.0 f.1)
-        (first_field fields (map (items_read block) (take (length fields) slots)) 253) ≡ first_time block fields slots → (b : Bool) → option_and_then (λ (f : FieldDef × Items Global). time_in_field f.0 f.1)
+        (first_field fields (map (items_read block) (take (length fields) slots)) 253) ≡ first_time block fields slots → (b : Bool)
+        → option_and_then (λ (f : FieldDef × Items Global). time_in_field f.0 f.1)
         (cond b (Some (f, items_read block s)) (first_field fields (map (items_read block) (take (length fields) slots)) 253))
         ≡ cond b (slot_time block f s) (first_time block fields slots)
     go rest true = refl

@@ -70,7 +70,11 @@ told_both s local f block entries offset few dev codes namings none own free = r
   seated = record {
     own = λ p less same. absurd (none f.definition.local p less same);
     fresh = λ d is. none;
-    defines = λ d is. (sym (some_is (with_local f.definition local) d is), ap (λ (e : MessageDef Global). dev_defs e.dev) (sym (some_is (with_local f.definition local) d is)) ∙ dev);
+    defines = λ d is. (
+      sym (some_is (with_local f.definition local) d is),
+      ap (λ (e : MessageDef Global). dev_defs e.dev) (sym (some_is
+          (with_local f.definition local) d is)) ∙ dev,
+    );
     own_free = λ d is. own;
     free = λ d is. free;
   };

@@ -36,7 +36,8 @@ returns-then-not-has_room-clause-refused c =
     let first = c.as_slice-defining.ensures.value ∙ c.in_ok-spell.ensures
     ∙ ap (λ (d : MessageDef Global). record_bytes (known s) (Define d)) c.in_ok-with_local.ensures in
     let size = grown_twice s (Define (with_local c.args.lone.now.definition c.args.front.local)) (Data (message a)) c.as_slice-2.result.now
-    c.as_slice-defining.result.now c.split_at.result.0.now (subst (λ (d : List ℕ). AreData d c.args.self.now.stream) (sym c.as_slice-2.ensures.value) c.requires.good.are_data) first (is_record a).1 in
+    c.as_slice-defining.result.now c.split_at.result.0.now (subst (λ (d : List ℕ). AreData d c.args.self.now.stream)
+    (sym c.as_slice-2.ensures.value) c.requires.good.are_data) first (is_record a).1 in
     too_long c.has_room.result _ _ size c.if-not-has_room.true c.has_room.ensures.1
 
 pub add_message-requires-clause-message : goal.add_message-requires-clause-message

@@ -7,5 +7,6 @@ use Rattle.fit_writer.proofs.file.OpenFile.put_definition.Goals as goal
 pub returns-then-not-has_room-clause-refused : goal.returns-then-not-has_room-clause-refused
 returns-then-not-has_room-clause-refused c =
     let size = grown_length c.args.self.now.stream (Define c.args.definition) c.as_slice.result.now c.as_slice-bytes.result.now
-    (subst (λ (d : List ℕ). AreData d c.args.self.now.stream) (sym c.as_slice.ensures.value) c.requires.good.are_data) (c.as_slice-bytes.ensures.value ∙ c.in_ok-spell.ensures) in
+    (subst (λ (d : List ℕ). AreData d c.args.self.now.stream) (sym c.as_slice.ensures.value) c.requires.good.are_data)
+    (c.as_slice-bytes.ensures.value ∙ c.in_ok-spell.ensures) in
     too_long c.has_room.result _ _ size c.if-not-has_room.true c.has_room.ensures.1

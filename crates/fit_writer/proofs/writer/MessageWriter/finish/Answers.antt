@@ -14,7 +14,8 @@ returns-clause-ok g c =
     c.is_empty.ensures.1) c.write.ensures.whole in
     let same = ap (λ (w : Writing). w.files) c.self.view_is in
     elim c.match-write.branch [
-      | in-Ok w ↦ rw w.result-is (finish_ok c.args.self.now c.end_file.new.self sink c.self.inside.files same ends chain w.in-Ok.ensures.ok w.in-Ok.ensures.works)
+      | in-Ok w ↦ rw w.result-is (finish_ok c.args.self.now c.end_file.new.self sink c.self.inside.files same ends chain w.in-Ok.ensures.ok
+          w.in-Ok.ensures.works)
       | in-Err w ↦ rw w.result-is tt
     ]
 
