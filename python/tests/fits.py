@@ -7,7 +7,7 @@ import decimal
 import io
 import struct
 
-import support  # it has gazhdor found
+import support  # noqa: F401, it has gazhdor found
 
 import gazhdor
 

@@ -3,17 +3,14 @@ them."""
 import copy
 import decimal
 import io
-import math
 import os
 import pickle
-import stat
-import struct
 import sys
 import tempfile
 import unittest
 
-from support import left_out, run
-from made import one, written
+from made import written
+from support import left_out
 
 import gazhdor
 

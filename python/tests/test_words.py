@@ -62,7 +62,8 @@ class Reading(unittest.TestCase):
 
     def test_by_another_field(self):
         """What a product or a device is depends on who made it, or how it is connected."""
-        known = (1, 1169, "edge800"), (15, 1169, "edge800"), (263, 12, "assioma_duo"), (32, 1169, None), (263, 1169, None)
+        known = (1, 1169, "edge800"), (15, 1169, "edge800"), (263, 12, "assioma_duo")
+        known += (32, 1169, None), (263, 1169, None)
         for manufacturer, product, word in known:
             message = first(file_of(("file_id", {"manufacturer": manufacturer, "product": product})))
             self.assertEqual(message.word("product"), word, (manufacturer, product))
@@ -145,14 +146,16 @@ class Columns(unittest.TestCase):
 
 class Writing(unittest.TestCase):
     def test_words(self):
-        words = {"sport": "cycling", "sub_sport": "road", "event": "lap", "event_type": "stop", "trigger": "activity_end",
+        words = {"sport": "cycling", "sub_sport": "road",
+            "event": "lap", "event_type": "stop", "trigger": "activity_end",
             "total_calories": 2}
         self.assertEqual(file_of(("session", words)), file_of(("session", SESSION)))
         message = first(file_of(("session", SESSION)), words=True).replace(sport="running", sub_sport=3)
         self.assertEqual((message["sport"], message["sub_sport"], message.field("sport").raw), ("running", "trail", 1))
 
     def test_wrong_words(self):
-        for field, word, more in (("sport", "cyclign", ": is it 'cycling'?"), ("sport", "qqq", ""), ("intensity", "", "")):
+        wrong = ("sport", "cyclign", ": is it 'cycling'?"), ("sport", "qqq", ""), ("intensity", "", "")
+        for field, word, more in wrong:
             with self.assertRaises(gazhdor.WrongValue) as caught:
                 file_of(("lap", {field: word}))
             self.assertEqual(str(caught.exception), f"{field}: {word!r} is no word that it can have{more}")

@@ -1,5 +1,4 @@
 """Messages as values, made from their blocks."""
-import datetime
 import html
 import struct
 from collections.abc import Callable, Iterator, Mapping, ValuesView
