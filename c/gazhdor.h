@@ -25,7 +25,7 @@
 #include <stdint.h>
 
 /* The version of this header; gazhdor_version() has that of the library. */
-#define GAZHDOR_VERSION "0.7.0"
+#define GAZHDOR_VERSION "0.8.0"
 
 /* Casts and null pointers as each language writes them, so that C++ has nothing to warn of. */
 #ifdef __cplusplus
@@ -201,7 +201,7 @@ void gazhdor_free(gazhdor_text text);
 const char *gazhdor_status_name(uint32_t status);
 const char *gazhdor_reason_name(uint32_t reason);
 
-/* The version of the library, as "0.7.0". */
+/* The version of the library, as "0.8.0". */
 const char *gazhdor_version(void);
 
 #ifdef __cplusplus

@@ -3,7 +3,7 @@
 import { Answer, OutOfMemory, Trapped, WrongModule } from "./answers.mjs"
 import { NO_MEMORY } from "./numbers.mjs"
 
-export const VERSION = "0.7.0"
+export const VERSION = "0.8.0"
 
 const CALLS = ["check", "table", "to_csv", "show", "messages", "from_csv", "from_messages", "open", "feed", "finish", "close", "alloc", "free", "version"]
 
