@@ -29,7 +29,7 @@ impl<'a> Message<'a> {
     ///     }
     ///     sum += altitude.and_then(|place| record.at(place)?.value(0)).unwrap_or(0.0);
     /// }
-    /// assert_eq!(sum.round(), 60250.0);
+    /// assert_eq!(sum.round(), 58742.0);
     /// ```
     #[must_use]
     pub fn at(&self, place: Place<'a>) -> Option<Field<'a>> {
