@@ -5,6 +5,7 @@
 #![tactic(auto)]
 
 mod converting;
+mod document;
 mod meaning;
 mod reading;
 mod recording;
@@ -43,6 +44,7 @@ fn make(rt: &HostRuntime, call: &str, input: &[u8]) -> io::Result<()> {
         "to_csv" => converting::rows(rt, input),
         "table" => converting::records(rt, input),
         "from_csv" => converting::bytes(rt, input),
+        "document" => document::with_a_long_end(rt, input),
         "recording" => recording::write(rt),
         _ => println!(rt; "no such call"),
     }
