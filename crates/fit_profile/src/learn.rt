@@ -23,6 +23,7 @@ fn define(
     ensures names { OnOk result (AreNamesAfter env.old record_.now names.old names.new) }
     ensures names_kept { OnErr result (AreSameNames names.old names.new) }
 {
+    names.make_place(definition)?;
     let namings = names.namings_of(definition)?;
     env.learn(record_)?;
     names.put(definition.local, namings);

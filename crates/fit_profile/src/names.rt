@@ -1,5 +1,5 @@
 //! Names and units of developer fields: those of the last descriptions, and those of the defined fields.
-ghost use Rattle.std.specs.Prelude.{◌≡◌, ◌==◌, ◌<◌, IfOk, OnOk, IsSome, ℕ, [], if◌then◌else◌, length, map, option_map, slice_get, slice_index_or, slice_set};
+ghost use Rattle.std.specs.Prelude.{◌≡◌, ◌==◌, ◌<◌, ◌⊎◌, IfOk, OnOk, IsSome, ℕ, [], if◌then◌else◌, length, map, option_map, slice_get, slice_index_or};
 ghost use Rattle.std.specs.BTreeMap.{get};
 ghost use Rattle.std.specs.String.{string_bytes};
 ghost use Rattle.fit_record.specs.Environment.{dev_defs, dev_key_cmp};
@@ -55,7 +55,8 @@ impl<A: Allocator> Model for Texts<A> {
 #[derive(Drop)]
 pub(crate) struct Names<A: Allocator = Global> {
     pub described: BTreeMap<DevKey, Texts<A>, A>,
-    pub places: [Entries<Texts<A>, A>; 16],
+    /// Only as many as have had developer fields, so that little is let go where a file begins.
+    pub places: Vec<Entries<Texts<A>, A>, A>,
     pub alloc: A,
 }
 
@@ -153,41 +154,20 @@ pub(crate) fn texts_of<A: Allocator + Copy>(
     Texts::of(alloc, name, unit)
 }
 
-/// Sixteen local message types without developer fields.
-fn no_places<A: Allocator + Copy>(alloc: A) -> [Entries<Texts<A>, A>; 16]
-    ensures { (local : ℕ) → slice_index_or result local [] ≡ [] }
-{
-    [
-        Entries::new(alloc),
-        Entries::new(alloc),
-        Entries::new(alloc),
-        Entries::new(alloc),
-        Entries::new(alloc),
-        Entries::new(alloc),
-        Entries::new(alloc),
-        Entries::new(alloc),
-        Entries::new(alloc),
-        Entries::new(alloc),
-        Entries::new(alloc),
-        Entries::new(alloc),
-        Entries::new(alloc),
-        Entries::new(alloc),
-        Entries::new(alloc),
-        Entries::new(alloc),
-    ]
-}
-
-/// Puts the names and units of a local message type in their place.
-fn set_place<A: Allocator>(
-    places: &mut [Entries<Texts<A>, A>; 16],
+/// Puts local message types without developer fields after the others, up to this one.
+fn grow<A: Allocator + Copy>(
+    places: &mut Vec<Entries<Texts<A>, A>, A>,
+    alloc: A,
     local: u8,
-    namings: Entries<Texts<A>, A>,
-)
-    requires { local < 16 }
-    ensures place { places.new ≡ slice_set places.old local namings }
-    ensures length { length places.old ≡ 16 }
+) -> Result<(), AllocError>
+    ensures same { (l : ℕ) → slice_index_or places.new.items l []
+        ≡ slice_index_or places.old.items l [] }
+    ensures held { OnOk result (local < length places.new.items) }
 {
-    places[local as usize] = namings;
+    while places.len() <= local as usize {
+        places.push(Entries::new(alloc))?;
+    }
+    Ok(())
 }
 
 impl<A: Allocator> Names<A> {
@@ -195,7 +175,7 @@ impl<A: Allocator> Names<A> {
     pub fn at(&self, local: u8) -> &[Texts<A>]
         ensures { result.now ≡ namings_in self.now local }
     {
-        match self.places.get(local as usize) {
+        match self.places.as_slice().get(local as usize) {
             Some(texts) => texts.as_slice(),
             None => &[],
         }
@@ -209,6 +189,25 @@ impl<A: Allocator> Names<A> {
     }
 }
 
+impl<A: Allocator> Names<A> {
+    /// The name and the unit of a developer field of a definition that comes now.
+    pub fn described(&self, field: DevDef) -> (Option<&str>, Option<&str>)
+        ensures name { option_map (λ s. s.now) result.0
+            ≡ (naming_in self.now field.index field.number).name }
+        ensures unit { option_map (λ s. s.now) result.1
+            ≡ (naming_in self.now field.index field.number).unit }
+    {
+        let key = DevKey {
+            index: field.index,
+            number: field.number,
+        };
+        match self.described.get(&key) {
+            Some(texts) => (texts.name(), texts.unit()),
+            None => (None, None),
+        }
+    }
+}
+
 impl<A: Allocator + Copy> Names<A> {
     /// Nothing is described or defined.
     pub fn new(alloc: A) -> Self
@@ -217,7 +216,7 @@ impl<A: Allocator + Copy> Names<A> {
     {
         Names {
             described: BTreeMap::new(alloc),
-            places: no_places(alloc),
+            places: Vec::new(alloc),
             alloc,
         }
     }
@@ -260,15 +259,31 @@ impl<A: Allocator + Copy> Names<A> {
         }
     }
 
+    /// Takes memory for the names and units of the developer fields of a definition, where it has some. No name or unit changes.
+    pub fn make_place(&mut self, definition: &MessageDef<A>) -> Result<(), AllocError>
+        ensures naming { (index number : ℕ) → naming_in self.new index number
+            ≡ naming_in self.old index number }
+        ensures namings { (local : ℕ) → namings_in self.new local ≡ namings_in self.old local }
+        ensures held { OnOk result ((dev_defs definition.now.dev ≡ [])
+            ⊎ (definition.now.local < length self.new.places.items)) }
+    {
+        if definition.dev.is_none() {
+            return Ok(());
+        }
+        grow(&mut self.places, self.alloc, definition.local)
+    }
+
     /// Keeps the names and units of a local message type.
     pub fn put(&mut self, local: u8, namings: Entries<Texts<A>, A>)
-        requires { local < 16 }
+        requires { (namings ≡ []) ⊎ (local < length self.old.places.items) }
         ensures namings { (l : ℕ) → namings_in self.new l
             ≡ (if local == l then namings else namings_in self.old l) }
         ensures naming { (index number : ℕ) → naming_in self.new index number
             ≡ naming_in self.old index number }
     {
-        set_place(&mut self.places, local, namings);
+        if (local as usize) < self.places.len() {
+            self.places[local as usize] = namings;
+        }
     }
 
     /// Takes memory for what will be described. No name or unit changes.

@@ -12,6 +12,7 @@ pub mod KeptInPlaces
 pub mod FirstOfNumber
 pub mod BytesOfNumbers
 pub mod OneWalk
+pub mod SilentFields
 pub mod MessageSizes
 pub mod ReadMessages
 pub mod RoomSums

@@ -1,7 +1,7 @@
 -- What a field description says, found by one walk over its fields.
-use Rattle.fit_record.proofs.Common.{◌≡◌, ℕ, ◌+◌, ◌<◌, ◌≤◌, Bool, true, false, cond, List, [], ◌∷◌, length, take, drop, refl, sym, ap, ◌∙◌, subst, lit<}
-use Rattle.fit_record.proofs.Common.{arith, Some, None, Option, option_and_then, ◌==◌, FieldDef, MessageDef, Values, Order, fields_from, sizes, description}
-use Rattle.fit_record.proofs.Common.{slice_get, eqb-true, eq-eqb, zero, suc, length-drop, ne_eqb}
+use Rattle.fit_record.proofs.Common.{◌≡◌, ℕ, ◌+◌, ◌<◌, ◌≤◌, Bool, true, false, cond, List, [], length, take, drop, refl, sym, ap, ◌∙◌, lit<}
+use Rattle.fit_record.proofs.Common.{arith, Some, None, Option, ◌==◌, FieldDef, MessageDef, Values, Order, fields_from, sizes, description}
+use Rattle.fit_record.proofs.Common.{slice_get, eqb-true, eq-eqb, zero, suc, length-drop}
 use Rattle.std.specs.Prelude.{IsSome, slice_index_or}
 use Rattle.fit_record.specs.Environment.{only, only_byte}
 use Rattle.fit_record.specs.inner.Describing.{described_by_three, so_far}
@@ -91,16 +91,6 @@ module _ (A : Type 0) (o : Order) (fields : List FieldDef) (k : ℕ) (f : FieldD
 
   pub less : sizes (slots (drop k fields)) ≤ length rest → sizes (slots (drop (k + 1) fields)) ≤ length after
   less enough = omega (arith, sizes_at A o fields k f at [] 0, enough, ap length back, length-drop f.size rest)
-
--- a field without bytes that describes nothing
-pub passed_by : (A : Type 0) (o : Order) (fields : List FieldDef) (k : ℕ) (f : FieldDef) → slice_get fields k ≡ Some f → (bytes rest : List ℕ)
-    → (found : List (Option ℕ)) → IsFound A o fields bytes found (drop k fields) rest → 3 ≤ f.number → f.size ≡ 0
-    → IsFound A o fields bytes found (drop (k + 1) fields) rest
-passed_by A o fields k f at bytes rest found told other empty n few =
-    let apart : (f.number == n) ≡ false = ne_eqb f.number n (λ same. absurd (omega (arith, other, few, same))) in
-    ap (so_far (slice_index_or found n None))
-    (ap (λ s. byte_of A o (drop (k + 1) fields) (drop s rest) n) (sym empty) ∙ passed_at A o fields k f at rest n apart)
-    ∙ told n few
 
 -- nothing comes after what was found
 pub all_found : (A : Type 0) (o : Order) (fields later : List FieldDef) (bytes rest : List ℕ) (found : List (Option ℕ))

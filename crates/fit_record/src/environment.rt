@@ -238,8 +238,9 @@ impl<A: Allocator + Copy> Env<A> {
         Ok(())
     }
 
-    /// The base type code of a developer field that is defined now.
-    fn code_of(&self, f: DevDef) -> u8
+    /// The base type code of a developer field of a definition that comes now: that of its last description, or else `BYTE` ("Developer
+    /// Fields").
+    pub fn code_of(&self, f: DevDef) -> u8
         ensures { result ≡ dev_code self.now f }
     {
         let key = DevKey {

@@ -5,7 +5,7 @@ use Rattle.fit_step.proofs.Common.{length-take-le, get_or-set_other, IsBytes, Is
 use Rattle.fit_step.proofs.Common.{Values, Environment, defined_at, defined_by, describe, described_by, description, learn, bit, has_reserved_bit}
 use Rattle.fit_step.proofs.Common.{is_definition, local_type, message_size, AllFit, record_bytes, records_bytes, IsRecord, size_to_skip, AreSizesToSkip}
 use Rattle.fit_step.proofs.Common.{HeadsMessage, IsSkipped, Learns, SkipsInSection, AreSkipped, ◌≤◌, ◌==◌, drop, slice_index, slice_set, ◌-◌, Record}
-use Rattle.fit_step.proofs.Common.{learn_all, CanFill, six_and_more, Position}
+use Rattle.fit_step.proofs.Common.{learn_all, CanFill, six_and_more, IsBytes-none, Position}
 use Rattle.std.specs.Prelude.{slice_index_or}
 use Rattle.std.proofs.lemmas.Grind.{get_or-set_at}
 use Rattle.fit_record.proofs.RecordLists.{all_fit-append, records_bytes-append, learn_all-append}
@@ -141,6 +141,19 @@ plain_stands e room piece r used some within large spelled = record {
   spelled = spelled;
   fills = λ sixteen. large_fill (learn e r) (room - used) (sixteen_learned e r sixteen) (omega (arith, large));
 }
+
+-- and one with which the room ends
+pub last_stands : {A : Type 0} (e : Environment A) (room : ℕ) (piece : List ℕ) (r : Record A) (used : ℕ) → 0 < used → used ≤ length piece
+    → used ≡ room → IsRecord e r (take used piece) → StandsWhole e room piece r used
+last_stands e room piece r used some within ends spelled =
+    let none : 0 ≡ room - used = omega (arith, ends) in
+    record {
+      some = some;
+      within = within;
+      enough = omega (arith, ends);
+      spelled = spelled;
+      fills = λ sixteen. subst (CanFill (learn e r)) none ([], [], IsBytes-none, (tt, refl), refl);
+    }
 
 pub skipped_after : {A : Type 0} (e known : Environment A) (p : Position) (in_progress : Option (Record A)) (piece : List ℕ) (used : ℕ)
     (records : List (Record A)) → in_progress ≡ None → used + 6 ≤ p.room → Learns e known (take used piece) records

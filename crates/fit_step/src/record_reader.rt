@@ -1,8 +1,8 @@
 //! The bytes of a piece that belong to a record.
 ghost use Rattle.std.specs.Prelude.{◌≡◌, ℕ, ◌+◌, ◌<◌, ◌≤◌, length, OnErr, Ok, None, Some, true, false, IfNone, IfOk, IfSome, IsSomeAnd};
 ghost use Rattle.fit_record.specs.declared.message.Record.{Record};
-ghost use Rattle.fit_record.specs.declared.message.Record.TheVariants.{Values as Data};
-ghost use Rattle.fit_record.specs.Environment.{DescribesNothing, learn};
+ghost use Rattle.fit_record.specs.declared.message.Record.TheVariants.{Define, Values as Data};
+ghost use Rattle.fit_record.specs.Environment.{DescribesNothing, Environment, learn};
 ghost use Rattle.fit_record.specs.Records.{Fits};
 ghost use Rattle.fit_step.specs.InProgress.{AwaitsByte, Reads, ReadsInPlace};
 ghost use Rattle.fit_step.specs.Machine.{step};
@@ -17,9 +17,9 @@ use crate::inside::take_inside;
 use crate::one_byte::step;
 use crate::read_definition::{read_fields, with_fields};
 use crate::undone::undo;
-use crate::whole::{learn_copy, plain_definition, plain_message, whole_message};
+use crate::whole::{last_definition, learn_copy, plain_definition, plain_message, whole_message};
 use crate::{Position, Stop};
-use fit_record::{Env, Record, Values};
+use fit_record::{Env, MessageDef, Record, Values};
 use std::alloc::{AllocError, Allocator};
 
 /// Learns a whole record. Whether there was memory.
@@ -114,8 +114,25 @@ fn scan_bytes<A: Allocator + Copy>(
     (piece.len(), Ok(false))
 }
 
-/// A data message, or a definition message with developer fields, of which all bytes stand at the front of the piece, where one begins
-/// there, and how many they are. `read_whole_definition` reads those without developer fields.
+/// A definition message with developer fields, or one with which the data section ends, of which all bytes stand at the front of the
+/// piece, where one begins there, and how many they are. `read_whole_definition` reads the others.
+#[inline(always)]
+fn whole_definition<A: Allocator + Copy>(
+    alloc: A,
+    room: u32,
+    piece: &[u8],
+) -> Option<(MessageDef<A>, usize)>
+    ensures { (e : Environment A) → IfSome result (λ found.
+        StandsWhole e room piece.now (Define found.0) found.1) }
+{
+    match developer_definition(alloc, room, piece) {
+        Some(found) => Some(found),
+        None => last_definition(alloc, room, piece),
+    }
+}
+
+/// A data message, or a definition message that `whole_definition` reads, of which all bytes stand at the front of the piece, where one
+/// begins there, and how many they are.
 #[inline(always)]
 fn whole_record<A: Allocator + Copy>(
     alloc: A,
@@ -128,7 +145,7 @@ fn whole_record<A: Allocator + Copy>(
 {
     match whole_message(alloc, env, room, piece) {
         Some((values, used)) => Some((Record::Values(values), used)),
-        None => match developer_definition(alloc, room, piece) {
+        None => match whole_definition(alloc, room, piece) {
             Some((definition, used)) => Some((Record::Define(definition), used)),
             None => None,
         },

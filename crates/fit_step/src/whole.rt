@@ -1,14 +1,14 @@
 //! Records of which all bytes are in one piece.
 ghost use Rattle.std.specs.Prelude.{◌≡◌, ℕ, List, ◌+◌, ◌*◌, ◌<◌, ◌≤◌, IfSome, IsSomeAnd, None, OnErr, OnOk, length};
 ghost use Rattle.fit_record.specs.declared.message.Record.TheVariants.{Define, Values as Data};
-ghost use Rattle.fit_record.specs.Environment.{learn};
+ghost use Rattle.fit_record.specs.Environment.{Environment, learn};
 ghost use Rattle.fit_record.specs.Records.{DefinitionFits};
 ghost use Rattle.fit_step.specs.Skipping.{HasMessage};
 ghost use Rattle.fit_step.specs.declared.read_definition.Front.{Front as Fronts};
 ghost use Rattle.fit_step.specs.inner.Definitions.{AreFields, Begins, definition_of};
 ghost use Rattle.fit_step.specs.inner.Whole.{IsPlain, StandsWhole};
 
-use crate::read_definition::{Front, definition_bytes, with_fields};
+use crate::read_definition::{Front, definition_bytes, read_fields, with_fields};
 use crate::repeated::is_known;
 use fit_base::Entries;
 use fit_record::{Env, FIELD_DESCRIPTION, MessageBytes, MessageDef, Record, Values};
@@ -106,6 +106,29 @@ pub(crate) fn plain_definition<'a, A: Allocator>(
         return None;
     }
     Some((front, entries))
+}
+
+/// The definition message without developer fields that begins the piece, where all its bytes stand there and the data section ends
+/// with it, and how many bytes it has. There is none where memory is refused. It stands apart, since few data sections end so.
+#[cold]
+#[inline(never)]
+pub(crate) fn last_definition<A: Allocator + Copy>(
+    alloc: A,
+    room: u32,
+    piece: &[u8],
+) -> Option<(MessageDef<A>, usize)>
+    ensures { (e : Environment A) → IfSome result (λ found.
+        StandsWhole e room piece.now (Define found.0) found.1) }
+{
+    let (front, entries) = definition_bytes(piece)?;
+    let size = 6 + entries.len();
+    if size != room as usize {
+        return None;
+    }
+    let Ok(fields) = read_fields(alloc, front.count, entries) else {
+        return None;
+    };
+    Some((with_fields(front, fields), size))
 }
 
 /// Learns a definition that these bytes spell, with memory of its own where it isn't known already.

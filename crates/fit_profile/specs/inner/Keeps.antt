@@ -27,7 +27,7 @@ naming_in names index number = unwrap_or (get dev_key_cmp names.described (recor
 
 -- those that are kept for the developer fields of a local message type
 abbrev pub namings_in : {A : Type 0} → Names A → ℕ → List Naming
-namings_in names local = slice_index_or names.places local []
+namings_in names local = slice_index_or names.places.items local []
 
 -- the names and units that are kept after a record, by those that were before it
 abbrev pub AreNamesAfter : {A : Type 0} → Environment A → Record A → Names A → Names A → Type 0

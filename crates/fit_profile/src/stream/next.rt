@@ -4,7 +4,7 @@ ghost use Rattle.std.specs.List.{list_any};
 ghost use Rattle.fit_record.specs.Environment.{defined_at};
 ghost use Rattle.fit_record.specs.Records.{Fits};
 ghost use Rattle.fit_profile.specs.Accumulated.{is_counter};
-ghost use Rattle.fit_profile.specs.Described.{namings_at};
+ghost use Rattle.fit_profile.specs.Described.{naming_of, namings_at};
 ghost use Rattle.fit_profile.specs.Looks.{known};
 ghost use Rattle.fit_profile.specs.Times as times;
 ghost use Rattle.fit_profile.specs.Told.{told_of};
@@ -14,7 +14,7 @@ use crate::by_plan::{tell, time_of};
 use crate::names::Texts;
 use crate::time::header_time;
 use crate::told::Told;
-use fit_record::Record;
+use fit_record::{DevDef, Record};
 
 impl Stream {
     /// The time that the next message with this offset has by its compressed header: the least one at
@@ -78,6 +78,16 @@ impl Stream {
             ≡ option_and_then (λ t. t.unit) (slice_get (namings_at self.now local) place) }
     {
         self.texts_at(local, place)?.unit()
+    }
+
+    /// The name and the unit of a developer field of a definition that comes now: those of its last field description.
+    pub fn described(&self, field: DevDef) -> (Option<&str>, Option<&str>)
+        ensures name { option_map (λ s. s.now) result.0
+            ≡ (naming_of self.now field.index field.number).name }
+        ensures unit { option_map (λ s. s.now) result.1
+            ≡ (naming_of self.now field.index field.number).unit }
+    {
+        self.names.described(field)
     }
 
     /// The name and the unit of a developer field, as `dev_name` and `dev_unit` give them, by one look.

@@ -1,5 +1,6 @@
 -- What a walk over the fields of a field description has found.
-use Rattle.std.specs.Prelude.{ℕ, Option, Some, None, option_and_then}
+use Rattle.std.specs.Prelude.{◌≡◌, ◌≤◌, ℕ, Option, Some, None, option_and_then}
+use Rattle.fit_record.specs.declared.definition.FieldDef.{FieldDef}
 use Rattle.fit_record.specs.declared.learn.Description.{Description}
 
 -- what was found already, or else what comes later
@@ -12,3 +13,7 @@ abbrev pub described_by_three : Option ℕ → Option ℕ → Option ℕ → Opt
 described_by_three a b c =
     option_and_then (λ index. option_and_then (λ number. option_and_then (λ code.
     Some (record { key = record { index = index; number = number }; code = code })) c) b) a
+
+-- a field that has no bytes, and is none of fields 0, 1 and 2
+abbrev pub IsPassedBy : FieldDef → Type 0
+IsPassedBy f = (3 ≤ f.number) × (f.size ≡ 0)

@@ -1,8 +1,7 @@
-use Rattle.fit_profile.proofs.Common.{inl, inr, ◌≡◌, ◌∙◌, ◌<◌, ℕ, List, [], length, get_or, refl, sym, ap, subst, cond, cases_eq, eq-eqb, ne_eqb}
+use Rattle.fit_profile.proofs.Common.{inl, inr, ◌≡◌, ◌∙◌, ◌<◌, ℕ, List, [], length, get_or, sym, ap, cond, cases_eq, eq-eqb, ne_eqb}
 use Rattle.std.proofs.Common.{◌==◌}
 use Rattle.std.proofs.Math.ListN.{set}
 use Rattle.std.proofs.lemmas.List.{get_or-set_other, get_or-set_same}
-use Rattle.fit_profile.proofs.names.Names.put.Goals as goal
 
 -- what is put stands at its place, and the others stay
 one_put : {X : Type 0} (places : List (List X)) (local l : ℕ) (put : List X) → local < length places
@@ -12,11 +11,3 @@ one_put places local l put within = elim (cases_eq local l) [
       ∙ sym (ap (λ b. cond b put (get_or places l [])) (eq-eqb local l same))
   | inr other ↦ get_or-set_other places local l put [] (λ e. other (sym e)) ∙ sym (ap (λ b. cond b put (get_or places l [])) (ne_eqb local l other))
 ]
-
-pub returns-clause-namings : goal.returns-clause-namings
-returns-clause-namings g c l =
-    ap (λ places. get_or places l []) c.set_place.ensures.place
-    ∙ one_put c.args.self.now.places c.args.local l c.args.namings (subst (λ n. c.args.local < n) (sym c.set_place.ensures.length) c.requires)
-
-pub returns-clause-naming : goal.returns-clause-naming
-returns-clause-naming g c index number = refl
