@@ -76,18 +76,34 @@ static uint8_t *load(const char *path, size_t *length)
     return NULL;
 }
 
-/* Copies all blocks, and takes the places out of the messages. */
-static void copy(gazhdor_writer *to, gazhdor_text blocks)
+/* Puts a message without its places, whose block is changed in `room`. */
+static gazhdor_answer put_message(gazhdor_writer *writer, gazhdor_blocks *room, const gazhdor_reader *at)
 {
-    gazhdor_reader at = gazhdor_read(blocks);
-    while (gazhdor_next(&at)) {
-        gazhdor_put_block(to, at.block);
-        if (at.block.kind != GAZHDOR_MESSAGE)
-            continue;
-        for (gazhdor_field f = gazhdor_first_field(at.definition); f.there; f = gazhdor_next_field(at.definition, f))
-            if (is_place(at.message, f))
-                gazhdor_set_invalid(to, f);
+    gazhdor_answer answer = { GAZHDOR_NO_MEMORY, 0, 0, 0, 0, 0 };
+    gazhdor_begin_anew(room);
+    if (gazhdor_put_copy(room, at->block) != GAZHDOR_PUT)
+        return answer;
+    for (gazhdor_field f = gazhdor_first_field(at->definition); f.there; f = gazhdor_next_field(at->definition, f))
+        if (is_place(at->message, f))
+            gazhdor_set_invalid(room, f);
+    return gazhdor_writer_messages(writer, at->definition.bytes, at->definition.length, room->bytes, room->length);
+}
+
+/* Puts what the blocks say without places, and makes the bytes of it. */
+static gazhdor_answer copy(gazhdor_writer *writer, gazhdor_text blocks, gazhdor_text *file)
+{
+    gazhdor_blocks room = gazhdor_write(NULL, 0, gazhdor_by_realloc, NULL);
+    gazhdor_answer answer = gazhdor_writer_open(writer);
+    for (gazhdor_reader at = gazhdor_read(blocks); answer.status == GAZHDOR_GOOD && gazhdor_next(&at);) {
+        if (at.block.kind == GAZHDOR_FILE_HEADER)
+            answer = gazhdor_writer_file(writer, at.block.bytes, at.block.length);
+        else if (at.block.kind == GAZHDOR_DEFINITION)
+            answer = gazhdor_writer_definition(writer, at.block.bytes, at.block.length);
+        else if (at.block.kind == GAZHDOR_MESSAGE)
+            answer = put_message(writer, &room, &at);
     }
+    free(room.bytes);
+    return answer.status == GAZHDOR_GOOD ? gazhdor_writer_finish(writer, file) : answer;
 }
 
 static int save(const char *path, gazhdor_text bytes)
@@ -112,14 +128,10 @@ int main(int argc, char **argv)
         return 4;
     }
     gazhdor_text blocks = GAZHDOR_NO_TEXT, file = GAZHDOR_NO_TEXT;
-    gazhdor_writer to = gazhdor_write(NULL, 0, gazhdor_by_realloc, NULL);
+    gazhdor_writer writer = GAZHDOR_CLOSED_WRITER;
     gazhdor_answer answer = gazhdor_messages(bytes, length, &blocks);
-    if (answer.status == GAZHDOR_GOOD) {
-        copy(&to, blocks);
-        answer = gazhdor_from_messages(to.bytes, to.length, &file);
-    }
-    if (to.fault != GAZHDOR_PUT) /* Blocks that were read can be copied, where there is memory. */
-        answer.status = GAZHDOR_NO_MEMORY;
+    if (answer.status == GAZHDOR_GOOD)
+        answer = copy(&writer, blocks, &file);
     int is_good = answer.status == GAZHDOR_GOOD;
     if (!is_good)
         fprintf(stderr, "%s\n", gazhdor_status_name(answer.status));
@@ -128,7 +140,7 @@ int main(int argc, char **argv)
         fprintf(stderr, "cannot write %s\n", argv[2]);
     gazhdor_free(file);
     gazhdor_free(blocks);
-    free(to.bytes);
+    gazhdor_writer_close(&writer);
     free(bytes);
     return is_saved ? 0 : is_good ? 4 : answer.status == GAZHDOR_NO_MEMORY ? 3 : 1;
 }

@@ -13,6 +13,13 @@ gazhdor_answer proved_gazhdor_open(gazhdor_stream *stream, uint32_t kind);
 gazhdor_answer proved_gazhdor_feed(gazhdor_stream *stream, const uint8_t *bytes, size_t length, gazhdor_text *text);
 gazhdor_answer proved_gazhdor_finish(gazhdor_stream *stream, gazhdor_text *text);
 void proved_gazhdor_close(gazhdor_stream *stream);
+gazhdor_answer proved_gazhdor_writer_open(gazhdor_writer *writer);
+gazhdor_answer proved_gazhdor_writer_file(gazhdor_writer *writer, const uint8_t *block, size_t length);
+gazhdor_answer proved_gazhdor_writer_definition(gazhdor_writer *writer, const uint8_t *block, size_t length);
+gazhdor_answer proved_gazhdor_writer_messages(gazhdor_writer *writer, const uint8_t *definition, size_t definition_length,
+    const uint8_t *blocks, size_t length);
+gazhdor_answer proved_gazhdor_writer_finish(gazhdor_writer *writer, gazhdor_text *bytes);
+void proved_gazhdor_writer_close(gazhdor_writer *writer);
 
 static const uint8_t *some(const uint8_t *bytes)
 {
@@ -72,4 +79,35 @@ gazhdor_answer gazhdor_finish(gazhdor_stream *stream, gazhdor_text *text)
 void gazhdor_close(gazhdor_stream *stream)
 {
     proved_gazhdor_close(stream);
+}
+
+gazhdor_answer gazhdor_writer_open(gazhdor_writer *writer)
+{
+    return proved_gazhdor_writer_open(writer);
+}
+
+gazhdor_answer gazhdor_writer_file(gazhdor_writer *writer, const uint8_t *block, size_t length)
+{
+    return proved_gazhdor_writer_file(writer, some(block), length);
+}
+
+gazhdor_answer gazhdor_writer_definition(gazhdor_writer *writer, const uint8_t *block, size_t length)
+{
+    return proved_gazhdor_writer_definition(writer, some(block), length);
+}
+
+gazhdor_answer gazhdor_writer_messages(gazhdor_writer *writer, const uint8_t *definition, size_t definition_length,
+    const uint8_t *blocks, size_t length)
+{
+    return proved_gazhdor_writer_messages(writer, some(definition), definition_length, some(blocks), length);
+}
+
+gazhdor_answer gazhdor_writer_finish(gazhdor_writer *writer, gazhdor_text *bytes)
+{
+    return proved_gazhdor_writer_finish(writer, bytes);
+}
+
+void gazhdor_writer_close(gazhdor_writer *writer)
+{
+    proved_gazhdor_writer_close(writer);
 }

@@ -1,9 +1,9 @@
 /* Gazhdor for C: checks and converts files of the FIT protocol, which watches and bicycle computers write.
  *
  * The first seven calls work on bytes in memory and keep nothing, so they may be made in as many threads at once as you like; the next
- * four take bytes that come in pieces, by a gazhdor_stream. No call reads or writes a file, sets a global or ends the process; the only
- * memory it takes is that of malloc. What these eleven promise is proved: the contract of each is that of the function of the same name in
- * crates/fit_c.
+ * four take bytes that come in pieces, by a gazhdor_stream, and six more write messages, by a gazhdor_writer. No call reads or writes a
+ * file, sets a global or ends the process; the only memory it takes is that of malloc. What these calls promise is proved: the contract of
+ * each is that of the function of the same name in crates/fit_c.
  *
  * Not proved, since only C can keep it:
  *  - `bytes` can be read for `length` bytes, and nobody writes them while the call runs. With length 0 it may be NULL.
@@ -11,7 +11,7 @@
  *  - A gazhdor_text that a call has filled is given to gazhdor_free once, by whoever made the call.
  *  - malloc, realloc and free belong to one another, and no call is made in a signal handler.
  *  - The thread has room: a call takes less than 49,152 bytes of stack, so that 64 KiB suffice for a thread of its own.
- *  - What is said of a gazhdor_stream below.
+ *  - What is said of a gazhdor_stream and a gazhdor_writer below.
  *
  *     gazhdor_text table = GAZHDOR_NO_TEXT;
  *     gazhdor_answer answer = gazhdor_table(bytes, length, &table);
@@ -25,7 +25,7 @@
 #include <stdint.h>
 
 /* The version of this header; gazhdor_version() has that of the library. */
-#define GAZHDOR_VERSION "0.8.0"
+#define GAZHDOR_VERSION "0.9.0"
 
 /* Casts and null pointers as each language writes them, so that C++ has nothing to warn of. */
 #ifdef __cplusplus
@@ -60,11 +60,11 @@ enum gazhdor_status {
     /* The rows of the text, or the blocks, are those of files that have no bytes: too long, or with zeros for a
      * checksum of 0. */
     GAZHDOR_UNWRITABLE = 5,
-    /* The stream isn't open. */
+    /* The stream or the writer isn't open. */
     GAZHDOR_CLOSED = 6,
     /* There is no such kind of stream. */
     GAZHDOR_NO_KIND = 7,
-    /* The block `row`, which begins at `place`, can't stand where it is: `reason` says why. */
+    /* The block `row`, which begins at `place`, can't stand where it is, or can't be put: `reason` says why. */
     GAZHDOR_BLOCK = 8
 };
 
@@ -94,7 +94,13 @@ enum gazhdor_block_reason {
     GAZHDOR_BLOCK_SIZE = 7,
     GAZHDOR_BLOCK_OFFSET = 8,
     GAZHDOR_BLOCK_UNDEFINED = 9,
-    GAZHDOR_BLOCK_ITEMS = 10
+    GAZHDOR_BLOCK_ITEMS = 10,
+    GAZHDOR_BLOCK_NO_FILE = 11,
+    GAZHDOR_BLOCK_FILES = 12,
+    GAZHDOR_BLOCK_FULL = 13,
+    GAZHDOR_BLOCK_TIME = 14,
+    GAZHDOR_BLOCK_DESCRIBED = 15,
+    GAZHDOR_BLOCK_TOO_LONG = 16
 };
 
 /* What a call returns. A number that has no meaning for the status is 0. */
@@ -102,8 +108,9 @@ typedef struct gazhdor_answer {
     uint32_t status; /* an enum gazhdor_status */
     uint32_t reason; /* with GAZHDOR_REFUSED, an enum gazhdor_reason, and with GAZHDOR_BLOCK, an enum gazhdor_block_reason */
     uint64_t place;  /* with GAZHDOR_REFUSED, GAZHDOR_TRUNCATED and GAZHDOR_BLOCK, a place among the bytes, counted from 0 */
-    uint64_t row;    /* with GAZHDOR_TEXT, counted from 1, the first line included; with GAZHDOR_BLOCK, a block, counted from 0 */
-    uint64_t column; /* with GAZHDOR_TEXT, counted from 1; 0 where the row as a whole is refused */
+    uint64_t row;    /* with GAZHDOR_TEXT, counted from 1, the first line included; with GAZHDOR_BLOCK, a block, counted from 0; of
+                      * gazhdor_writer_messages with each status how many messages were put */
+    uint64_t column; /* with GAZHDOR_TEXT, counted from 1; 0 where the row as a whole is refused; see gazhdor_writer_messages */
     uint64_t files;  /* with GAZHDOR_GOOD, of gazhdor_check and gazhdor_finish how many files there are, of gazhdor_feed how many have ended */
 } gazhdor_answer;
 
@@ -140,7 +147,7 @@ gazhdor_answer gazhdor_messages(const uint8_t *bytes, size_t length, gazhdor_tex
 gazhdor_answer gazhdor_from_csv(const uint8_t *text, size_t length, gazhdor_text *bytes);
 
 /* The FIT file or files that blocks of `length` bytes are those of: the blocks that gazhdor_messages makes of a file give its bytes again, and
- * gazhdor_writer, of gazhdor_write.h, makes others. There are no bytes where the status isn't GAZHDOR_GOOD. */
+ * gazhdor_blocks, of gazhdor_write.h, makes others. There are no bytes where the status isn't GAZHDOR_GOOD. */
 gazhdor_answer gazhdor_from_messages(const uint8_t *blocks, size_t length, gazhdor_text *bytes);
 
 /* ---- Bytes that come in pieces
@@ -193,6 +200,50 @@ gazhdor_answer gazhdor_finish(gazhdor_stream *stream, gazhdor_text *text);
 /* Closes a stream; one that is closed may be given too. */
 void gazhdor_close(gazhdor_stream *stream);
 
+/* ---- Messages that are put one after another
+ *
+ *     gazhdor_writer writer = GAZHDOR_CLOSED_WRITER;
+ *     gazhdor_answer answer = gazhdor_writer_open(&writer);
+ *     .. gazhdor_writer_file by the block of a header, and then, by those of a definition and of one message or several of it,
+ *     answer = gazhdor_writer_messages(&writer, definition.bytes, definition.length, message.bytes, message.length);
+ *     .. and in the end
+ *     answer = gazhdor_writer_finish(&writer, &bytes);
+ *     gazhdor_writer_close(&writer); */
+
+/* The files of a chain in the making, and what a reader of them would know: of each message that is put it is told what its block says,
+ * whatever file the blocks are of. It begins as GAZHDOR_CLOSED_WRITER. Only the six calls change it, one at a time, and each may be made in
+ * another thread, as those of a gazhdor_stream. It isn't copied, and in the end gazhdor_writer_close gives its memory back. */
+typedef struct gazhdor_writer {
+    void *at;
+} gazhdor_writer;
+
+#define GAZHDOR_CLOSED_WRITER { GAZHDOR_NULL }
+
+/* Opens a writer of no file; what it was before is closed. Where the answer isn't GAZHDOR_GOOD, it is closed. */
+gazhdor_answer gazhdor_writer_open(gazhdor_writer *writer);
+
+/* Begins a file with the header that a block says; the file before it ends.
+ *
+ * Of this call and the next two: GAZHDOR_BLOCK where a block can't be put, and then `reason` says why. After GAZHDOR_BLOCK and
+ * GAZHDOR_NO_MEMORY the writer is what it was, and may go on. */
+gazhdor_answer gazhdor_writer_file(gazhdor_writer *writer, const uint8_t *block, size_t length);
+
+/* Puts the definition message that a block says, as it is: for files that are copied. Before a message one is put where it is needed. */
+gazhdor_answer gazhdor_writer_definition(gazhdor_writer *writer, const uint8_t *block, size_t length);
+
+/* Puts the messages whose blocks stand one after another, by the block of their definition, up to the first that can't be put. `row` is how
+ * many were put, so with GAZHDOR_BLOCK the number of the one that wasn't, and `place` where that begins in `blocks`; `column` is 1 where it
+ * is the definition that can't stand, else 0. */
+gazhdor_answer gazhdor_writer_messages(gazhdor_writer *writer, const uint8_t *definition, size_t definition_length, const uint8_t *blocks,
+    size_t length);
+
+/* Ends the file that has begun, and makes the bytes of the chain; none where the status isn't GAZHDOR_GOOD. The writer keeps the chain: it
+ * may be finished again, and another file may begin. */
+gazhdor_answer gazhdor_writer_finish(gazhdor_writer *writer, gazhdor_text *bytes);
+
+/* Closes a writer; one that is closed may be given too. */
+void gazhdor_writer_close(gazhdor_writer *writer);
+
 /* Frees what a call has made. GAZHDOR_NO_TEXT, and a text of no bytes, may be given too. */
 void gazhdor_free(gazhdor_text text);
 
@@ -201,7 +252,7 @@ void gazhdor_free(gazhdor_text text);
 const char *gazhdor_status_name(uint32_t status);
 const char *gazhdor_reason_name(uint32_t reason);
 
-/* The version of the library, as "0.8.0". */
+/* The version of the library, as "0.9.0". */
 const char *gazhdor_version(void);
 
 #ifdef __cplusplus

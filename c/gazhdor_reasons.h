@@ -38,6 +38,12 @@ static inline const char *gazhdor_block_reason_name(uint32_t reason)
     case 8: return "Offset";
     case 9: return "Undefined";
     case 10: return "Items";
+    case 11: return "NoFile";
+    case 12: return "Files";
+    case 13: return "Full";
+    case 14: return "Time";
+    case 15: return "Described";
+    case 16: return "TooLong";
     default: return "unknown";
     }
 }
@@ -56,6 +62,12 @@ static inline const char *gazhdor_block_reason_text(uint32_t reason)
     case 8: return "the block has a time offset of 32 to 254";
     case 9: return "the block is a message whose local message type isn't defined";
     case 10: return "the block is a message that ends before the items of its fields do";
+    case 11: return "the block comes before a file has begun";
+    case 12: return "the block begins one file more than a chain may have";
+    case 13: return "the block is a message of 255 fields that needs a timestamp";
+    case 14: return "the block is a message that needs a timestamp, and whose time is the number that stands for none";
+    case 15: return "the block is a message of which a developer field has another base type, name or unit in this file, or none";
+    case 16: return "the block would make the data of its file longer than a file may have";
     default: return "unknown";
     }
 }

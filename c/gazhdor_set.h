@@ -14,7 +14,7 @@ extern "C" {
 
 /* Sets item k of a field, counted from 0, to what gazhdor_raw gives of it: of a signed field an int64_t, of a float its bits, of text and
  * bytes a byte. It may be the one that stands for no value. */
-static inline uint32_t gazhdor_set_number(gazhdor_writer *to, gazhdor_field field, size_t k, uint64_t raw)
+static inline uint32_t gazhdor_set_number(gazhdor_blocks *to, gazhdor_field field, size_t k, uint64_t raw)
 {
     uint8_t *items = gazhdor_place_of(to, field);
     if (items == GAZHDOR_NULL || k >= field.count)
@@ -78,7 +78,7 @@ static inline gazhdor_whole gazhdor_steps(double value, uint32_t scale, uint32_t
 }
 
 /* Sets an item of a float; a float of 4 bytes to the nearest. */
-static inline uint32_t gazhdor_set_float(gazhdor_writer *to, gazhdor_field field, size_t k, double value)
+static inline uint32_t gazhdor_set_float(gazhdor_blocks *to, gazhdor_field field, size_t k, double value)
 {
     /* From here on a number is nearer to 2^128 than to the greatest float of 4 bytes. */
     const double limit = field.width == 4 ? 340282356779733661637539395458142568448.0 : HUGE_VAL;
@@ -100,7 +100,7 @@ static inline uint32_t gazhdor_set_float(gazhdor_writer *to, gazhdor_field field
 /* Sets item k of a field, counted from 0, to the one nearest to this number in the field's unit, by exact arithmetic; halfway between two
  * to the one away from zero; of NAN to the one that stands for no value. GAZHDOR_PUT_RANGE where that is too small or too large for an item, or stands for no value. What gazhdor_value
  * gives of an item sets it again, where item and item - offset * scale have at most 52 bits. */
-static inline uint32_t gazhdor_set_value(gazhdor_writer *to, gazhdor_field field, size_t k, double value)
+static inline uint32_t gazhdor_set_value(gazhdor_blocks *to, gazhdor_field field, size_t k, double value)
 {
     if (gazhdor_place_of(to, field) == GAZHDOR_NULL || k >= field.count)
         return GAZHDOR_PUT_FIELD;
@@ -121,7 +121,7 @@ static inline uint32_t gazhdor_set_value(gazhdor_writer *to, gazhdor_field field
 }
 
 /* Sets a text, of UTF-8, which a zero ends; GAZHDOR_PUT_LENGTH where the field has no room for it and its zero. NULL is "". */
-static inline uint32_t gazhdor_set_text(gazhdor_writer *to, gazhdor_field field, const char *text)
+static inline uint32_t gazhdor_set_text(gazhdor_blocks *to, gazhdor_field field, const char *text)
 {
     uint8_t *items = gazhdor_place_of(to, field);
     size_t length = text == GAZHDOR_NULL ? 0 : strlen(text), size = GAZHDOR_CAST(size_t, field.count) * field.width;
@@ -138,7 +138,7 @@ static inline uint32_t gazhdor_set_text(gazhdor_writer *to, gazhdor_field field,
 }
 
 /* Sets all items of a field to what gazhdor_items gives of them; GAZHDOR_PUT_LENGTH where they have another length. */
-static inline uint32_t gazhdor_set_items(gazhdor_writer *to, gazhdor_field field, const uint8_t *bytes, size_t length)
+static inline uint32_t gazhdor_set_items(gazhdor_blocks *to, gazhdor_field field, const uint8_t *bytes, size_t length)
 {
     uint8_t *items = gazhdor_place_of(to, field);
     if (items == GAZHDOR_NULL)
@@ -152,7 +152,7 @@ static inline uint32_t gazhdor_set_items(gazhdor_writer *to, gazhdor_field field
 
 /* Gives the message a compressed header with this time offset, of 0 to 31 seconds, which local message types 0 to 3 may have; or with
  * GAZHDOR_NO_OFFSET a normal one, as each message that is made has. */
-static inline uint32_t gazhdor_set_offset(gazhdor_writer *to, uint32_t seconds)
+static inline uint32_t gazhdor_set_offset(gazhdor_blocks *to, uint32_t seconds)
 {
     if (gazhdor_block_at(to, to->message).kind != GAZHDOR_MESSAGE)
         return GAZHDOR_PUT_ORDER;
@@ -166,12 +166,12 @@ static inline uint32_t gazhdor_set_offset(gazhdor_writer *to, uint32_t seconds)
 
 /* Describes a developer field: a definition of this local message type, and a field_description message with its numbers, its base type,
  * its name and its unit, of at most 254 bytes each. */
-static inline uint32_t gazhdor_put_description(gazhdor_writer *to, uint32_t local, gazhdor_field own, const char *name, const char *unit)
+static inline uint32_t gazhdor_put_description(gazhdor_blocks *to, uint32_t local, gazhdor_field own, const char *name, const char *unit)
 {
     gazhdor_field fields[5] = { gazhdor_new_field(0, GAZHDOR_TYPE_UINT8, 1), gazhdor_new_field(1, GAZHDOR_TYPE_UINT8, 1),
         gazhdor_new_field(2, GAZHDOR_TYPE_UINT8, 1), gazhdor_new_field(3, GAZHDOR_TYPE_STRING, name == GAZHDOR_NULL ? 1 : strlen(name) + 1),
         gazhdor_new_field(8, GAZHDOR_TYPE_STRING, unit == GAZHDOR_NULL ? 1 : strlen(unit) + 1) };
-    gazhdor_writer before = *to;
+    gazhdor_blocks before = *to;
     if (!own.there || !own.developer)
         return gazhdor_missed(to, GAZHDOR_PUT_FIELD);
     uint32_t answer = gazhdor_put_definition(to, local, GAZHDOR_MESSAGE_FIELD_DESCRIPTION, fields, 5);

@@ -1,9 +1,9 @@
-/* What writes blocks, of which gazhdor_from_messages makes a FIT file: new ones, and changed copies of those that were read. gazhdor.h
- * includes it.
+/* What makes blocks of values, and changed copies of messages that were read: a gazhdor_writer puts them, or gazhdor_from_messages takes all
+ * blocks of a file at once. gazhdor.h includes it.
  *
  *     gazhdor_field fields[] = { gazhdor_new_field(253, GAZHDOR_TYPE_UINT32, 1),
  *         gazhdor_scaled(gazhdor_new_field(2, GAZHDOR_TYPE_UINT16, 1), 5, 500) };
- *     gazhdor_writer to = gazhdor_write(NULL, 0, gazhdor_by_realloc, NULL);
+ *     gazhdor_blocks to = gazhdor_write(NULL, 0, gazhdor_by_realloc, NULL);
  *     gazhdor_put_header(&to, 0);
  *     gazhdor_put_definition(&to, 0, GAZHDOR_MESSAGE_RECORD, fields, 2);
  *     gazhdor_put_message(&to, 0);
@@ -45,7 +45,7 @@ enum gazhdor_put {
 typedef uint8_t *gazhdor_grow(void *own, uint8_t *bytes, size_t capacity);
 
 /* Blocks in the making. Between calls you may read all of it, and set `fault`. Only one copy of it is written to. */
-typedef struct gazhdor_writer {
+typedef struct gazhdor_blocks {
     uint8_t *bytes;       /* the blocks, in memory of `capacity` bytes */
     size_t length;
     size_t capacity;
@@ -57,7 +57,7 @@ typedef struct gazhdor_writer {
     uint64_t definitions; /* how many definitions were made here */
     size_t message;       /* where the last block begins, if it is a message; else GAZHDOR_NOWHERE */
     size_t known[16];     /* where the last definition of each local message type in this file begins, or GAZHDOR_NOWHERE */
-} gazhdor_writer;
+} gazhdor_blocks;
 
 static inline uint8_t *gazhdor_by_realloc(void *own, uint8_t *bytes, size_t capacity)
 {
@@ -65,7 +65,7 @@ static inline uint8_t *gazhdor_by_realloc(void *own, uint8_t *bytes, size_t capa
     return GAZHDOR_CAST(uint8_t *, realloc(bytes, capacity));
 }
 
-static inline void gazhdor_know_nothing(gazhdor_writer *to)
+static inline void gazhdor_know_nothing(gazhdor_blocks *to)
 {
     to->message = GAZHDOR_NOWHERE;
     for (size_t i = 0; i < 16; i++)
@@ -74,9 +74,9 @@ static inline void gazhdor_know_nothing(gazhdor_writer *to)
 
 /* Nothing yet, in memory of `capacity` bytes that `grow` makes larger. `grow` is gazhdor_by_realloc for memory of malloc, or NULL, and
  * `bytes` may be; `own` is what it gets. The memory stays the caller's, who frees it. */
-static inline gazhdor_writer gazhdor_write(uint8_t *bytes, size_t capacity, gazhdor_grow *grow, void *own)
+static inline gazhdor_blocks gazhdor_write(uint8_t *bytes, size_t capacity, gazhdor_grow *grow, void *own)
 {
-    gazhdor_writer to;
+    gazhdor_blocks to;
     memset(&to, 0, sizeof to);
     to.bytes = bytes;
     to.capacity = bytes == GAZHDOR_NULL ? 0 : capacity;
@@ -131,7 +131,7 @@ static inline gazhdor_field gazhdor_scaled(gazhdor_field field, uint32_t scale, 
 /* ---- blocks */
 
 /* This answer, with which a block didn't come. */
-static inline uint32_t gazhdor_missed(gazhdor_writer *to, uint32_t answer)
+static inline uint32_t gazhdor_missed(gazhdor_blocks *to, uint32_t answer)
 {
     to->message = GAZHDOR_NOWHERE;
     if (to->fault == GAZHDOR_PUT)
@@ -140,7 +140,7 @@ static inline uint32_t gazhdor_missed(gazhdor_writer *to, uint32_t answer)
 }
 
 /* Sees that there is room for that many bytes more. */
-static inline int gazhdor_has_room(gazhdor_writer *to, size_t length)
+static inline int gazhdor_has_room(gazhdor_blocks *to, size_t length)
 {
     if (to->length <= to->capacity && length <= to->capacity - to->length)
         return 1;
@@ -158,7 +158,7 @@ static inline int gazhdor_has_room(gazhdor_writer *to, size_t length)
 }
 
 /* The block that begins at this place; none where there is none. */
-static inline gazhdor_block gazhdor_block_at(const gazhdor_writer *to, size_t place)
+static inline gazhdor_block gazhdor_block_at(const gazhdor_blocks *to, size_t place)
 {
     gazhdor_text none = { GAZHDOR_NULL, 0 }, rest = { to->bytes, to->length };
     if (place >= to->length)
@@ -169,7 +169,7 @@ static inline gazhdor_block gazhdor_block_at(const gazhdor_writer *to, size_t pl
 }
 
 /* A new block at the end, of zeros but for its length, its kind and its file; NULL where there is no room. */
-static inline uint8_t *gazhdor_new_block(gazhdor_writer *to, size_t length, uint32_t kind)
+static inline uint8_t *gazhdor_new_block(gazhdor_blocks *to, size_t length, uint32_t kind)
 {
     if (!gazhdor_has_room(to, length))
         return GAZHDOR_NULL;
@@ -184,7 +184,7 @@ static inline uint8_t *gazhdor_new_block(gazhdor_writer *to, size_t length, uint
 }
 
 /* Begins a file: a header of 14 bytes with its checksum, of protocol 2.0 and this version of the profile, as 2132 for 21.32. */
-static inline uint32_t gazhdor_put_header(gazhdor_writer *to, uint32_t profile)
+static inline uint32_t gazhdor_put_header(gazhdor_blocks *to, uint32_t profile)
 {
     if (to->within || profile > 0xFFFF)
         return gazhdor_missed(to, to->within ? GAZHDOR_PUT_ORDER : GAZHDOR_PUT_RANGE);
@@ -203,7 +203,7 @@ static inline uint32_t gazhdor_put_header(gazhdor_writer *to, uint32_t profile)
 }
 
 /* Ends the file. */
-static inline uint32_t gazhdor_put_end(gazhdor_writer *to)
+static inline uint32_t gazhdor_put_end(gazhdor_blocks *to)
 {
     if (!to->within)
         return gazhdor_missed(to, GAZHDOR_PUT_ORDER);
@@ -260,7 +260,7 @@ static inline void gazhdor_store_entry(uint8_t *entry, gazhdor_field field)
 /* Defines what the messages of a local message type are: of the message with this number, with these fields and then developer fields, in
  * little endian. The fields then are those of this definition, for gazhdor_set_value and the like. They may be new, or fields of a
  * definition that was read. */
-static inline uint32_t gazhdor_put_definition(gazhdor_writer *to, uint32_t local, uint32_t message, gazhdor_field *fields, size_t count)
+static inline uint32_t gazhdor_put_definition(gazhdor_blocks *to, uint32_t local, uint32_t message, gazhdor_field *fields, size_t count)
 {
     size_t developer;
     uint32_t answer = gazhdor_judge(fields, count, &developer), begins = GAZHDOR_AT_MESSAGE_ITEMS;
@@ -293,7 +293,7 @@ static inline uint32_t gazhdor_put_definition(gazhdor_writer *to, uint32_t local
 }
 
 /* Where the items of a field are in the last message; NULL where it isn't one of its fields. */
-static inline uint8_t *gazhdor_place_of(const gazhdor_writer *to, gazhdor_field field)
+static inline uint8_t *gazhdor_place_of(const gazhdor_blocks *to, gazhdor_field field)
 {
     gazhdor_text items = gazhdor_items(field, gazhdor_block_at(to, to->message));
     int is_width = field.width == 1 || field.width == 2 || field.width == 4 || field.width == 8;
@@ -302,7 +302,7 @@ static inline uint8_t *gazhdor_place_of(const gazhdor_writer *to, gazhdor_field 
 
 /* Sets all items of a field to the one that stands for no value: of text zeros, of bytes 255 each. For the fields of the message that was
  * written last, as all of gazhdor_set.h. */
-static inline uint32_t gazhdor_set_invalid(gazhdor_writer *to, gazhdor_field field)
+static inline uint32_t gazhdor_set_invalid(gazhdor_blocks *to, gazhdor_field field)
 {
     uint8_t *items = gazhdor_place_of(to, field);
     if (items == GAZHDOR_NULL)
@@ -313,7 +313,7 @@ static inline uint32_t gazhdor_set_invalid(gazhdor_writer *to, gazhdor_field fie
 }
 
 /* A message of the last definition of this local message type in this file, in which each field has no value yet. */
-static inline uint32_t gazhdor_put_message(gazhdor_writer *to, uint32_t local)
+static inline uint32_t gazhdor_put_message(gazhdor_blocks *to, uint32_t local)
 {
     gazhdor_block definition = gazhdor_block_at(to, local > 15 ? GAZHDOR_NOWHERE : to->known[local]);
     size_t length = GAZHDOR_CAST(size_t, gazhdor_load(definition, GAZHDOR_AT_DEFINITION_MESSAGE_LENGTH, 4)), place = to->length;
@@ -336,35 +336,29 @@ static inline uint32_t gazhdor_put_message(gazhdor_writer *to, uint32_t local)
     return GAZHDOR_PUT;
 }
 
-/* A copy of a block that was read, as it is; of a definition for the messages that are copied or made after it. Fields of its definition,
- * where that was read, set what a copied message has. The block isn't one of this writer. */
-static inline uint32_t gazhdor_put_block(gazhdor_writer *to, gazhdor_block block)
+/* A copy of a message that was read, to be changed by the fields of its definition and then put by a gazhdor_writer. The block isn't one of
+ * these. */
+static inline uint32_t gazhdor_put_copy(gazhdor_blocks *to, gazhdor_block message)
 {
-    gazhdor_text bytes = { block.bytes, block.length };
+    gazhdor_text bytes = { message.bytes, message.length };
     gazhdor_block whole = gazhdor_first(bytes);
-    size_t place = to->length;
-    if (whole.bytes == GAZHDOR_NULL || whole.length != block.length || whole.kind < GAZHDOR_FILE_HEADER || whole.kind > GAZHDOR_FILE_END)
+    if (whole.bytes == GAZHDOR_NULL || whole.length != message.length || whole.kind != GAZHDOR_MESSAGE)
         return gazhdor_missed(to, GAZHDOR_PUT_LENGTH);
-    uint32_t local = whole.bytes[whole.kind == GAZHDOR_DEFINITION ? GAZHDOR_AT_DEFINITION_LOCAL : GAZHDOR_AT_MESSAGE_LOCAL];
-    if ((whole.kind != GAZHDOR_FILE_HEADER) != to->within)
-        return gazhdor_missed(to, GAZHDOR_PUT_ORDER);
-    int is_local = whole.kind == GAZHDOR_DEFINITION || whole.kind == GAZHDOR_MESSAGE;
-    if (is_local && (local > 15 || (whole.kind == GAZHDOR_MESSAGE && to->known[local] == GAZHDOR_NOWHERE)))
-        return gazhdor_missed(to, GAZHDOR_PUT_LOCAL);
-    if (!gazhdor_has_room(to, block.length))
+    if (!gazhdor_has_room(to, message.length))
         return gazhdor_missed(to, GAZHDOR_PUT_FULL);
-    memcpy(to->bytes + place, block.bytes, block.length);
-    to->length += block.length;
-    to->message = whole.kind == GAZHDOR_MESSAGE ? place : GAZHDOR_NOWHERE;
-    if (whole.kind == GAZHDOR_FILE_HEADER) {
-        gazhdor_know_nothing(to);
-        to->file++;
-    }
-    if (whole.kind == GAZHDOR_DEFINITION)
-        to->known[local] = place;
-    if (!is_local)
-        to->within = whole.kind == GAZHDOR_FILE_HEADER;
+    memcpy(to->bytes + to->length, message.bytes, message.length);
+    to->message = to->length;
+    to->length += message.length;
     return GAZHDOR_PUT;
+}
+
+/* No blocks any more, in the same memory: what had no place before may have one now. */
+static inline void gazhdor_begin_anew(gazhdor_blocks *to)
+{
+    to->length = 0;
+    to->within = 0;
+    to->fault = GAZHDOR_PUT;
+    gazhdor_know_nothing(to);
 }
 
 #ifdef __cplusplus

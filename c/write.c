@@ -26,20 +26,45 @@ typedef struct cell {
     double value;
 } cell;
 
-/* A message of these values. A value that can't be, as NAN, leaves its field without one. */
-static void put(gazhdor_writer *to, uint32_t message, const cell *cells, size_t count)
+/* What is written: blocks in the making, the writer of the file, and its first answer that isn't good. */
+typedef struct output {
+    gazhdor_blocks blocks;
+    gazhdor_writer writer;
+    gazhdor_answer answer;
+} output;
+
+static void note(output *to, gazhdor_answer answer)
 {
+    if (to->answer.status == GAZHDOR_GOOD)
+        to->answer = answer;
+}
+
+/* Puts the messages whose blocks stand after that of their definition, which begins at this place, and lets the blocks go. */
+static void put_from(output *to, size_t place)
+{
+    gazhdor_block definition = gazhdor_block_at(&to->blocks, place);
+    size_t first = place + definition.length;
+    note(to, gazhdor_writer_messages(&to->writer, definition.bytes, definition.length, to->blocks.bytes + first, to->blocks.length - first));
+    to->blocks.length = place;
+}
+
+/* A message of these values. A value that can't be, as NAN, leaves its field without one. */
+static void put(output *to, uint32_t message, const cell *cells, size_t count)
+{
+    size_t place = to->blocks.length;
     gazhdor_field fields[16];
     for (size_t i = 0; i < count; i++)
         fields[i] = gazhdor_scaled(gazhdor_new_field(cells[i].number, cells[i].type, 1), cells[i].scale, cells[i].offset);
-    gazhdor_put_definition(to, 0, message, fields, count);
-    gazhdor_put_message(to, 0);
+    gazhdor_put_definition(&to->blocks, 0, message, fields, count);
+    gazhdor_put_message(&to->blocks, 0);
     for (size_t i = 0; i < count; i++)
-        gazhdor_set_value(to, fields[i], 0, cells[i].value);
+        gazhdor_set_value(&to->blocks, fields[i], 0, cells[i].value);
+    put_from(to, place);
 }
 
-static void put_points(gazhdor_writer *to)
+static void put_points(output *to)
 {
+    size_t place = to->blocks.length;
     gazhdor_field fields[] = {
         gazhdor_new_field(253, UINT32, 1),                       /* timestamp */
         gazhdor_new_field(0, SINT32, 1),                         /* position_lat, in semicircles */
@@ -48,17 +73,18 @@ static void put_points(gazhdor_writer *to)
         gazhdor_scaled(gazhdor_new_field(5, UINT32, 1), 100, 0), /* distance */
         gazhdor_new_field(3, UINT8, 1),                          /* heart_rate */
     };
-    gazhdor_put_definition(to, 1, GAZHDOR_MESSAGE_RECORD, fields, 6);
+    gazhdor_put_definition(&to->blocks, 1, GAZHDOR_MESSAGE_RECORD, fields, 6);
     for (size_t i = 0; i < POINTS; i++) {
         const double semicircles = 2147483648.0 / 180, values[6] = { ride[i].time - GAZHDOR_EPOCH, ride[i].latitude * semicircles,
             ride[i].longitude * semicircles, ride[i].altitude, ride[i].distance, ride[i].heart_rate };
-        gazhdor_put_message(to, 1);
+        gazhdor_put_message(&to->blocks, 1);
         for (size_t k = 0; k < 6; k++)
-            gazhdor_set_value(to, fields[k], 0, values[k]);
+            gazhdor_set_value(&to->blocks, fields[k], 0, values[k]);
     }
+    put_from(to, place);
 }
 
-static void put_ride(gazhdor_writer *to)
+static void put_ride(output *to)
 {
     const double start = ride[0].time - GAZHDOR_EPOCH, end = ride[POINTS - 1].time - GAZHDOR_EPOCH;
     const cell file[] = { { 0, ENUM, 1, 0, 4 /* activity */ }, { 1, UINT16, 1, 0, 255 /* development */ }, { 4, UINT32, 1, 0, start } };
@@ -68,14 +94,14 @@ static void put_ride(gazhdor_writer *to)
         { 5, ENUM, 1, 0, 2 }, { 25, UINT16, 1, 0, 0 }, { 26, UINT16, 1, 0, 1 } };
     const cell activity[] = { { 253, UINT32, 1, 0, end }, { 0, UINT32, 1000, 0, end - start }, { 1, UINT16, 1, 0, 1 }, { 2, ENUM, 1, 0, 0 },
         { 3, ENUM, 1, 0, 26 }, { 4, ENUM, 1, 0, 1 } };
-    gazhdor_put_header(to, 0);
+    gazhdor_put_header(&to->blocks, 0);
+    note(to, gazhdor_writer_file(&to->writer, to->blocks.bytes, to->blocks.length));
     put(to, GAZHDOR_MESSAGE_FILE_ID, file, 3);
     put_points(to);
     put(to, GAZHDOR_MESSAGE_LAP, session, 7);
     session[1].value = 8; /* session */
     put(to, GAZHDOR_MESSAGE_SESSION, session, 10);
     put(to, GAZHDOR_MESSAGE_ACTIVITY, activity, 6);
-    gazhdor_put_end(to);
 }
 
 int main(int argc, char **argv)
@@ -85,19 +111,21 @@ int main(int argc, char **argv)
         return 2;
     }
     gazhdor_text bytes = GAZHDOR_NO_TEXT;
-    gazhdor_writer to = gazhdor_write(NULL, 0, gazhdor_by_realloc, NULL);
+    output to = { gazhdor_write(NULL, 0, gazhdor_by_realloc, NULL), GAZHDOR_CLOSED_WRITER, { GAZHDOR_GOOD, 0, 0, 0, 0, 0 } };
+    note(&to, gazhdor_writer_open(&to.writer));
     put_ride(&to);
-    gazhdor_answer answer = gazhdor_from_messages(to.bytes, to.length, &bytes);
-    int is_good = to.fault == GAZHDOR_PUT && answer.status == GAZHDOR_GOOD;
+    note(&to, gazhdor_writer_finish(&to.writer, &bytes));
+    int is_made = to.blocks.fault == GAZHDOR_PUT, is_good = is_made && to.answer.status == GAZHDOR_GOOD;
     FILE *file = is_good ? fopen(argv[1], "wb") : NULL;
     int is_written = file != NULL && fwrite(bytes.bytes, 1, bytes.length, file) == bytes.length;
     if (file != NULL)
         is_written &= fclose(file) == 0;
     if (!is_good)
-        fprintf(stderr, "%s\n", to.fault == GAZHDOR_PUT ? gazhdor_status_name(answer.status) : gazhdor_put_text(to.fault));
+        fprintf(stderr, "%s\n", is_made ? gazhdor_status_name(to.answer.status) : gazhdor_put_text(to.blocks.fault));
     else if (!is_written)
         fprintf(stderr, "cannot write %s\n", argv[1]);
     gazhdor_free(bytes);
-    free(to.bytes);
+    gazhdor_writer_close(&to.writer);
+    free(to.blocks.bytes);
     return is_written ? 0 : is_good ? 4 : 3;
 }

@@ -1,7 +1,23 @@
 """What has the messages and fields of the proved profile, profile/fields.tsv: the code, the definition, bench/, and each language."""
+import itertools
 import re
 
-from tables import LINE, PROOF_LINE, messages, packed, put, read
+from tables import LINE, PROOF_LINE, filled, messages, packed, put, read
+
+JAVASCRIPT = """/* The names of messages and fields, as profile/fields.tsv and profile/extra.tsv of the project. profile/make writes this file.
+ *
+ * Each message is [number, name, fields], and each field [number, name, unit, scale, offset, type, base type]; null says nothing. */
+
+/* What the proved profile has. */
+export const PROFILE = [
+{profile}
+]
+
+/* What recordings have besides. */
+export const EXTRA_ROWS = [
+{extra}
+]
+"""
 
 
 def identifier(name):
@@ -51,12 +67,25 @@ def bench(table):
         yield whole if len(whole) <= LINE else '\n'.join([f'    ({number}, "{name}", &[', *packed(listed, '        '), '    ]),'])
 
 
+def javascript_field(row):
+    """A field as JavaScript has it: number, name, unit, scale, offset, type and base type, of which the last ones may be left out."""
+    number, name, unit, scale, offset, kind, base = row
+    cells = [number, *(f'"{cell}"' if cell else 'null' for cell in (name, unit)), *(cell or 'null' for cell in (scale, offset))]
+    cells += [f'"{cell}"' if cell else 'null' for cell in (kind, base)]
+    while cells[-1] == 'null':
+        cells.pop()
+    return f'[{", ".join(cells)}]'
+
+
 def javascript(table):
-    """Of each message its number, and the names of its fields."""
-    for number, name, fields in table:
-        listed = [f'"{of}"' for _, of, *_ in fields]
-        whole = f'    {name}: [{number}, [{", ".join(listed)}]],'
-        yield whole if len(whole) <= LINE else '\n'.join([f'    {name}: [{number}, [', *packed(listed, '        '), '    ]],'])
+    """Of each message its number, its name, and its fields."""
+    for (number, name), fields in itertools.groupby((line.split('\t') for line in lines_of(table)), lambda row: (row[0], row[1])):
+        yield '\n'.join([f'    [{number}, "{name}", [', *packed([javascript_field(row[2:]) for row in fields if row[2]], '        '), '    ]],'])
+
+
+def lines_of(table):
+    """The rows of a table that may have lines beside them."""
+    return [line for line in read(f'profile/{table}.tsv').splitlines() if not line.startswith(('#', 'message\t'))]
 
 
 def wanted():
@@ -71,8 +100,7 @@ def wanted():
     yield path, text[:re.search(r'^abbrev pub \w+ : Message\n', text, re.M).start()] + ''.join(definition(table))
     path = 'bench/profile.rs'
     yield path, put(read(path), '&[Row])] = &[\n', '\n'.join(bench(table)) + '\n', '];\n')
-    path = 'js/src/profile.mjs'
-    yield path, put(read(path), 'export const PROFILE = {\n', '\n'.join(javascript(table)) + '\n', '}\n')
+    yield 'js/src/names_table.mjs', filled(JAVASCRIPT, profile='\n'.join(javascript('fields')), extra='\n'.join(javascript('extra')))
     for folder in ('python/gazhdor', 'rust/src'):
         yield f'{folder}/profile.tsv', read('profile/fields.tsv')
         yield f'{folder}/extra.tsv', read('profile/extra.tsv')

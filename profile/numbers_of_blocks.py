@@ -147,7 +147,11 @@ JAVASCRIPT = """/* The numbers of the library and of its blocks (docs/BLOCKS.md)
 {parts}// What a call found.
 {statuses}
 // What is made of the pieces of a stream.
-{streams}"""
+{streams}
+// The base types: name, code, what the items stand for, the bytes of one, and the item that stands for no value.
+export const BASE_TYPES = [
+{types}]
+"""
 
 
 def listed(comment, form):
@@ -211,7 +215,8 @@ def javascript():
     form = 'export const {name} = {number}\n'
     said = ''.join(form.format(name=name, number=number) for number, (name, *_) in enumerate(statuses()))
     kinds = ''.join(form.format(name=f'STREAM_{kind}', number=number) for number, (kind, _) in enumerate(streams()))
-    return filled(JAVASCRIPT, parts=listed('//', form), statuses=said, streams=kinds)
+    types = ''.join(f'    ["{name}", {code}, {kind}, {width}, {invalid}n],\n' for name, code, kind, width, invalid, _ in base_types())
+    return filled(JAVASCRIPT, parts=listed('//', form), statuses=said, streams=kinds, types=types)
 
 
 # ---- docs/BLOCKS.md

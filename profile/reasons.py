@@ -124,9 +124,6 @@ def wanted():
     yield 'python/gazhdor/_reasons.py', PYTHON_REASONS + python_table('REASONS', rows) + '\n' + python_table('BLOCK_REASONS', of_blocks)
     yield 'c/gazhdor_reasons.h', filled(C_REASONS, bytes=c_cases(f'the byte {words}' for _, words in rows), names=c_cases(name for name, _ in of_blocks),
                                         blocks=c_cases(f'the block {words}' for _, words in of_blocks))
-    path = 'docs/C.md'
-    listed = ''.join(f'| {number} | `{name}` | {words} |\n' for number, (name, words) in enumerate(of_blocks, 1))
-    yield path, put(read(path), '| `reason` | | The block |\n|--:|---|---|\n', listed, '\n`gazhdor_block_reason_name`')
     yield 'rust/src/reason.rs', rust_reasons('Why a byte is refused.', 'Reason', 'REASONS', 'byte', 'is neither 0 nor 1', rows)
     yield 'rust/src/block_reason.rs', rust_reasons("Why a block can't stand where it is.", 'BlockReason', 'BLOCK_REASONS', 'block',
                                                    'has a time offset of 32 to 254', of_blocks)

@@ -199,9 +199,9 @@ static void named(void)
 static void named_of_blocks(void)
 {
     static const char *const reasons[] = { "unknown", "Cut", "Kind", "Header", "Local", "Architecture", "Entries", "Size", "Offset",
-        "Undefined", "Items", "unknown" };
-    for (uint32_t reason = 0; reason <= GAZHDOR_BLOCK_ITEMS + 1; reason++) {
-        int is_one = reason >= GAZHDOR_BLOCK_CUT && reason <= GAZHDOR_BLOCK_ITEMS;
+        "Undefined", "Items", "NoFile", "Files", "Full", "Time", "Described", "TooLong", "unknown" };
+    for (uint32_t reason = 0; reason <= GAZHDOR_BLOCK_TOO_LONG + 1; reason++) {
+        int is_one = reason >= GAZHDOR_BLOCK_CUT && reason <= GAZHDOR_BLOCK_TOO_LONG;
         WANT(strcmp(gazhdor_block_reason_name(reason), reasons[reason]) == 0);
         WANT(is_one ? strncmp(gazhdor_block_reason_text(reason), "the block ", 10) == 0 : strcmp(gazhdor_block_reason_text(reason), "unknown") == 0);
         for (uint32_t other = GAZHDOR_BLOCK_CUT; is_one && other < reason; other++)

@@ -33,6 +33,7 @@ list(JOIN known " " known)
 # ---- the library
 
 set(calls check close feed finish free from_csv from_messages messages open reason_name show status_name table to_csv version)
+list(APPEND calls writer_close writer_definition writer_file writer_finish writer_messages writer_open)
 list(APPEND calls amount developer field_at first first_field float forget items keep message_name name_at named next next_field numbered raw
     string value)
 list(TRANSFORM calls PREPEND gazhdor_)
@@ -147,6 +148,7 @@ math(EXPR fewer "${rounds} / 5")
 foreach(kind ride mixed developer compressed strings)
     quiet("blocks that are copied and changed of ${kind}" "${under}./rewrites ${kind}.fit ${fewer}")
 endforeach()
+quiet("blocks that a writer puts" "./writers 300 ${known} ${all_files}")
 has(PYTHON3 "no values are worked out" python3)
 quiet("the demo writes a ride" "./write written.fit")
 if(PYTHON3)

@@ -12,7 +12,18 @@ void h(gazhdor_reader *reader)
     gazhdor_free(text);
     gazhdor_close(&stream);
 }
-uint32_t w(gazhdor_writer *to)
+gazhdor_answer put(gazhdor_block header, gazhdor_block definition, gazhdor_block message, gazhdor_text *bytes)
+{
+    gazhdor_writer writer = GAZHDOR_CLOSED_WRITER;
+    if (gazhdor_writer_open(&writer).status == GAZHDOR_GOOD)
+        gazhdor_writer_file(&writer, header.bytes, header.length);
+    gazhdor_writer_definition(&writer, definition.bytes, definition.length);
+    gazhdor_writer_messages(&writer, definition.bytes, definition.length, message.bytes, message.length);
+    gazhdor_answer answer = gazhdor_writer_finish(&writer, bytes);
+    gazhdor_writer_close(&writer);
+    return answer;
+}
+uint32_t w(gazhdor_blocks *to)
 {
     gazhdor_field fields[2] = { gazhdor_scaled(gazhdor_new_field(2, GAZHDOR_TYPE_UINT16, 1), 5, 500), gazhdor_new_developer(0, 1, GAZHDOR_TYPE_STRING, 9) };
     *to = gazhdor_write(GAZHDOR_NULL, 0, gazhdor_by_realloc, GAZHDOR_NULL);

@@ -72,9 +72,9 @@ enum { HEADER = 32, DEFINITION = 48, ENTRY = 32, END = 24, NUMBER = 0xFF00 };
 static uint8_t *put_definition(uint8_t *at, uint8_t local, size_t fields, size_t developer)
 {
     at[GAZHDOR_AT_DEFINITION_LOCAL] = local;
-    put_number(at + 32, 2, NUMBER);
-    put_number(at + 34, 2, fields);
-    put_number(at + 36, 2, developer);
+    put_number(at + GAZHDOR_AT_DEFINITION_MESSAGE, 2, NUMBER);
+    put_number(at + GAZHDOR_AT_DEFINITION_FIELDS, 2, fields);
+    put_number(at + GAZHDOR_AT_DEFINITION_DEVELOPERS, 2, developer);
     at[GAZHDOR_AT_DEFINITION_BITS] = developer != 0;
     put_block(at, GAZHDOR_DEFINITION, DEFINITION + (fields + developer) * ENTRY);
     return at + DEFINITION;
@@ -84,7 +84,7 @@ static uint8_t *put_entry(uint8_t *at, size_t number, int developer, uint8_t cod
 {
     const uint8_t front[] = { ENTRY, 0, 0, 0, (uint8_t)number, (uint8_t)developer, 0, code, 0, (uint8_t)width, (uint8_t)count };
     memcpy(at, front, sizeof front);
-    put_number(at + 12, 4, begins);
+    put_number(at + GAZHDOR_AT_ENTRY_ITEMS, 4, begins);
     return at + ENTRY;
 }
 

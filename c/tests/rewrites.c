@@ -1,5 +1,5 @@
-/* Tests of gazhdor_write.h and gazhdor_set.h on blocks that were read, and by random calls: rewrites FILE ROUNDS. A copy of all blocks, and one
- * of which each item was set to what it is, say the bytes of FILE; without a field they say the others. Random calls with random numbers, in
+/* Tests of gazhdor_write.h and gazhdor_set.h on blocks that were read, and by random calls: rewrites FILE ROUNDS. Copies of all messages, and
+ * those of which each item was set to what it is, make the bytes of FILE; without a field they say the others. Random calls with random numbers, in
  * memory of just its length, show a compiler's checks, or valgrind, a read or a write outside it; where they had no fault, they made a file. */
 #include "want.h"
 
@@ -8,7 +8,7 @@
 /* ---- copies */
 
 /* Sets each item of the last message to what it is. */
-static void set_again(gazhdor_writer *to, const gazhdor_reader *at)
+static void set_again(gazhdor_blocks *to, const gazhdor_reader *at)
 {
     for (gazhdor_field f = gazhdor_first_field(at->definition); f.there; f = gazhdor_next_field(at->definition, f)) {
         gazhdor_text items = gazhdor_items(f, at->block), text = gazhdor_string(f, at->block);
@@ -29,28 +29,35 @@ static void set_again(gazhdor_writer *to, const gazhdor_reader *at)
     PUT(gazhdor_set_offset(to, at->block.bytes[GAZHDOR_AT_MESSAGE_OFFSET]));
 }
 
-/* Whether the blocks are those of a file with these bytes. */
-static int are_of(const gazhdor_writer *to, const uint8_t *bytes, size_t length)
+/* Puts a message as it is: a copy, of which each item was set again. */
+static gazhdor_answer put_copy(gazhdor_writer *writer, gazhdor_blocks *to, const gazhdor_reader *at)
 {
-    gazhdor_text file = GAZHDOR_NO_TEXT;
-    int are = to->fault == GAZHDOR_PUT && gazhdor_from_messages(to->bytes, to->length, &file).status == GAZHDOR_GOOD && file.length == length
-        && memcmp(file.bytes, bytes, length) == 0;
-    gazhdor_free(file);
-    return are;
+    gazhdor_begin_anew(to);
+    PUT(gazhdor_put_copy(to, at->block));
+    WANT(to->length == at->block.length && memcmp(to->bytes, at->block.bytes, to->length) == 0);
+    set_again(to, at);
+    WANT(to->length == at->block.length && memcmp(to->bytes, at->block.bytes, to->length) == 0);
+    return gazhdor_writer_messages(writer, at->definition.bytes, at->definition.length, to->bytes, to->length);
 }
 
 static void copies(gazhdor_text blocks, const uint8_t *bytes, size_t length)
 {
-    gazhdor_writer to = gazhdor_write(NULL, 0, gazhdor_by_realloc, NULL), plain = to;
-    for (gazhdor_reader at = gazhdor_read(blocks); gazhdor_next(&at);) {
-        PUT(gazhdor_put_block(&plain, at.block));
-        PUT(gazhdor_put_block(&to, at.block));
-        if (at.block.kind == GAZHDOR_MESSAGE)
-            set_again(&to, &at);
+    gazhdor_blocks to = gazhdor_write(NULL, 0, gazhdor_by_realloc, NULL);
+    gazhdor_writer writer = GAZHDOR_CLOSED_WRITER;
+    gazhdor_text file = GAZHDOR_NO_TEXT;
+    gazhdor_answer answer = gazhdor_writer_open(&writer);
+    for (gazhdor_reader at = gazhdor_read(blocks); answer.status == GAZHDOR_GOOD && gazhdor_next(&at);) {
+        if (at.block.kind == GAZHDOR_FILE_HEADER)
+            answer = gazhdor_writer_file(&writer, at.block.bytes, at.block.length);
+        else if (at.block.kind == GAZHDOR_DEFINITION)
+            answer = gazhdor_writer_definition(&writer, at.block.bytes, at.block.length);
+        else if (at.block.kind == GAZHDOR_MESSAGE)
+            answer = put_copy(&writer, &to, &at);
     }
-    WANT(plain.length == blocks.length && memcmp(plain.bytes, blocks.bytes, blocks.length) == 0 && are_of(&plain, bytes, length));
-    WANT(to.length == blocks.length && memcmp(to.bytes, blocks.bytes, blocks.length) == 0);
-    free(plain.bytes);
+    WANT(answer.status == GAZHDOR_GOOD && gazhdor_writer_finish(&writer, &file).status == GAZHDOR_GOOD);
+    WANT(file.length == length && memcmp(file.bytes, bytes, length) == 0);
+    gazhdor_free(file);
+    gazhdor_writer_close(&writer);
     free(to.bytes);
 }
 
@@ -65,11 +72,11 @@ static size_t fields_without(gazhdor_block definition, uint32_t number, gazhdor_
 }
 
 /* Copies all blocks, records without their first field; in little endian. */
-static gazhdor_writer without_a_field(gazhdor_text blocks)
+static gazhdor_blocks without_a_field(gazhdor_text blocks)
 {
     static gazhdor_field fields[16][510];
     size_t counts[16] = { 0 };
-    gazhdor_writer to = gazhdor_write(NULL, 0, gazhdor_by_realloc, NULL);
+    gazhdor_blocks to = gazhdor_write(NULL, 0, gazhdor_by_realloc, NULL);
     for (gazhdor_reader at = gazhdor_read(blocks); gazhdor_next(&at);) {
         uint32_t local = at.block.bytes[at.block.kind == GAZHDOR_DEFINITION ? 5 : 6] & 15;
         uint32_t number = (uint32_t)gazhdor_load(at.definition, GAZHDOR_AT_DEFINITION_MESSAGE, 2);
@@ -86,7 +93,7 @@ static gazhdor_writer without_a_field(gazhdor_text blocks)
                 PUT(gazhdor_set_items(&to, fields[local][i], items.bytes, items.length));
             }
         } else {
-            PUT(gazhdor_put_block(&to, at.block));
+            PUT(at.block.kind == GAZHDOR_FILE_HEADER ? gazhdor_put_header(&to, 0) : gazhdor_put_end(&to));
         }
     }
     return to;
@@ -110,7 +117,7 @@ static int same_items(const gazhdor_reader *whole, const gazhdor_reader *part, i
 }
 
 /* Whether these blocks say a file whose messages are those of `blocks`, records without their first field where `is_without`. */
-static void say_the_same(const gazhdor_writer *to, gazhdor_text blocks, int is_without)
+static void say_the_same(const gazhdor_blocks *to, gazhdor_text blocks, int is_without)
 {
     gazhdor_text file = GAZHDOR_NO_TEXT, read = GAZHDOR_NO_TEXT;
     WANT(to->fault == GAZHDOR_PUT && gazhdor_from_messages(to->bytes, to->length, &file).status == GAZHDOR_GOOD);
@@ -129,7 +136,7 @@ static void say_the_same(const gazhdor_writer *to, gazhdor_text blocks, int is_w
 static void described(void)
 {
     gazhdor_field own = gazhdor_new_developer(3, 7, GAZHDOR_TYPE_SINT16, 2);
-    gazhdor_writer to = gazhdor_write(NULL, 0, gazhdor_by_realloc, NULL);
+    gazhdor_blocks to = gazhdor_write(NULL, 0, gazhdor_by_realloc, NULL);
     gazhdor_text file = GAZHDOR_NO_TEXT, blocks = GAZHDOR_NO_TEXT;
     PUT(gazhdor_put_header(&to, 0));
     PUT(gazhdor_put_description(&to, 2, own, "Form power", "watts"));
@@ -150,38 +157,40 @@ static void described(void)
     free(to.bytes);
 }
 
-/* Puts a block with one byte changed, and as the last thing the byte back. */
-static uint32_t put_changed(gazhdor_writer *to, gazhdor_block block, size_t at, uint8_t byte)
+/* Copies a block with one byte changed, and as the last thing puts the byte back. */
+static uint32_t put_changed(gazhdor_blocks *to, gazhdor_block block, size_t at, uint8_t byte)
 {
     uint8_t *bytes = (uint8_t *)(uintptr_t)block.bytes, old = bytes[at];
     bytes[at] = byte;
-    uint32_t answer = gazhdor_put_block(to, block);
+    uint32_t answer = gazhdor_put_copy(to, block);
     bytes[at] = old;
     return answer;
 }
 
-/* Blocks that aren't whole, or of no kind or local message type; and a definition that says a wrong length of its messages. */
+/* Blocks that aren't whole, or of no message; and a definition that says a wrong length of its messages. */
 static void wrong_blocks(void)
 {
     static const uint32_t lengths[] = { 0, 32, 41, 72 + 510 * 256 + 8, 0xFFFFFFF8 };
     gazhdor_field field = gazhdor_new_field(3, GAZHDOR_TYPE_UINT8, 1);
-    gazhdor_writer from = gazhdor_write(NULL, 0, gazhdor_by_realloc, NULL), to = from;
+    gazhdor_blocks from = gazhdor_write(NULL, 0, gazhdor_by_realloc, NULL), to = from;
     PUT(gazhdor_put_header(&from, 0));
     PUT(gazhdor_put_definition(&from, 1, 20, &field, 1));
     PUT(gazhdor_put_message(&from, 1));
-    gazhdor_block header = gazhdor_block_at(&from, 0), definition = gazhdor_block_at(&from, 32), message = gazhdor_block_at(&from, 128), cut = header;
+    gazhdor_block header = gazhdor_block_at(&from, 0), definition = gazhdor_block_at(&from, 32), message = gazhdor_block_at(&from, 128), cut = message;
     cut.length -= 8;
-    WANT(gazhdor_put_block(&to, cut) == GAZHDOR_PUT_LENGTH && put_changed(&to, header, 0, 24) == GAZHDOR_PUT_LENGTH);
-    WANT(put_changed(&to, header, GAZHDOR_AT_KIND, 0) == GAZHDOR_PUT_LENGTH && put_changed(&to, header, GAZHDOR_AT_KIND, 5) == GAZHDOR_PUT_LENGTH);
-    WANT(gazhdor_put_block(&to, definition) == GAZHDOR_PUT_ORDER && to.length == 0);
-    PUT(gazhdor_put_block(&to, header));
-    WANT(gazhdor_put_block(&to, message) == GAZHDOR_PUT_LOCAL && put_changed(&to, definition, 5, 16) == GAZHDOR_PUT_LOCAL);
-    PUT(gazhdor_put_block(&to, definition));
-    WANT(put_changed(&to, message, 6, 16) == GAZHDOR_PUT_LOCAL && put_changed(&to, message, 6, 255) == GAZHDOR_PUT_LOCAL);
-    WANT(put_changed(&to, message, GAZHDOR_AT_MESSAGE_LOCAL, 0) == GAZHDOR_PUT_LOCAL && to.length == 128);
+    WANT(gazhdor_put_copy(&to, cut) == GAZHDOR_PUT_LENGTH && put_changed(&to, message, 0, 24) == GAZHDOR_PUT_LENGTH);
+    for (uint8_t kind = 0; kind < 8; kind++)
+        WANT(kind == GAZHDOR_MESSAGE || put_changed(&to, message, GAZHDOR_AT_KIND, kind) == GAZHDOR_PUT_LENGTH);
+    WANT(gazhdor_put_copy(&to, header) == GAZHDOR_PUT_LENGTH && gazhdor_put_copy(&to, definition) == GAZHDOR_PUT_LENGTH);
+    WANT(to.length == 0 && to.fault == GAZHDOR_PUT_LENGTH && to.message == GAZHDOR_NOWHERE);
+    PUT(gazhdor_put_copy(&to, message));
+    WANT(to.message == 0 && to.length == message.length);
+    gazhdor_begin_anew(&to);
+    WANT(to.length == 0 && to.fault == GAZHDOR_PUT && gazhdor_set_invalid(&to, field) == GAZHDOR_PUT_FIELD);
     for (size_t i = 0; i < sizeof lengths / sizeof lengths[0]; i++) {
-        memcpy(to.bytes + 32 + 12, &lengths[i], 4);
-        WANT(gazhdor_put_message(&to, 1) == GAZHDOR_PUT_LENGTH && to.length == 128);
+        size_t length = from.length;
+        memcpy(from.bytes + 32 + 12, &lengths[i], 4);
+        WANT(gazhdor_put_message(&from, 1) == GAZHDOR_PUT_LENGTH && from.length == length);
     }
     free(from.bytes);
     free(to.bytes);
@@ -191,7 +200,7 @@ static void wrong_blocks(void)
 static void odd_size(void)
 {
     gazhdor_field odd = gazhdor_new_field(3, GAZHDOR_TYPE_UINT16Z, 1);
-    gazhdor_writer to = gazhdor_write(NULL, 0, gazhdor_by_realloc, NULL);
+    gazhdor_blocks to = gazhdor_write(NULL, 0, gazhdor_by_realloc, NULL);
     odd.width = 1;
     odd.count = 3;
     odd.kind = GAZHDOR_BYTES;
@@ -252,7 +261,7 @@ static double any_value(void)
 }
 
 /* One of the calls that set something. */
-static void any_set(gazhdor_writer *to, gazhdor_field field)
+static void any_set(gazhdor_blocks *to, gazhdor_field field)
 {
     static const char *texts[] = { "", "a", "Zürich", "a text that is longer than most fields of a few bytes are", NULL };
     static const uint8_t items[256];
@@ -297,7 +306,7 @@ static gazhdor_block any_block(gazhdor_text blocks, int *is_sure)
 }
 
 /* Some calls in their order, for a file that may become one. */
-static void any_calls(gazhdor_writer *to, gazhdor_text blocks, int *is_sure)
+static void any_calls(gazhdor_blocks *to, gazhdor_text blocks, int *is_sure)
 {
     gazhdor_field fields[12] = { any_field(is_sure) };
     gazhdor_block block;
@@ -318,7 +327,7 @@ static void any_calls(gazhdor_writer *to, gazhdor_text blocks, int *is_sure)
         case 9:
             if (any() % 4 == 0) {
                 block = any_block(blocks, is_sure);
-                gazhdor_put_block(to, block);
+                gazhdor_put_copy(to, block);
                 free((void *)(uintptr_t)block.bytes);
             }
             break;
@@ -333,7 +342,7 @@ static void any_file(gazhdor_text blocks)
 {
     size_t capacity = any() % 2 == 0 ? 0 : 1 + any() % 4000;
     uint8_t *room = capacity == 0 ? NULL : malloc(capacity);
-    gazhdor_writer to = gazhdor_write(room, capacity, room == NULL || any() % 2 == 0 ? gazhdor_by_realloc : NULL, NULL);
+    gazhdor_blocks to = gazhdor_write(room, capacity, room == NULL || any() % 2 == 0 ? gazhdor_by_realloc : NULL, NULL);
     gazhdor_text file = GAZHDOR_NO_TEXT;
     int is_sure = 1;
     if (any() % 4 != 0)
@@ -365,7 +374,7 @@ int main(int argc, char **argv)
     gazhdor_text file = file_of(argv[1], 1 << 20), blocks = GAZHDOR_NO_TEXT;
     WANT(gazhdor_messages(file.bytes, file.length, &blocks).status == GAZHDOR_GOOD);
     copies(blocks, file.bytes, file.length);
-    gazhdor_writer without = without_a_field(blocks);
+    gazhdor_blocks without = without_a_field(blocks);
     say_the_same(&without, blocks, 1);
     free(without.bytes);
     described();

@@ -1,5 +1,5 @@
 /* How much stack the calls of gazhdor.h take: stack FILE.. Each call on each file and on the greatest message, on its blocks, and on its CSV
- * text in three spellings, and each kind of stream of it in pieces, runs in a thread whose stack has the 64 KiB that the header says to be
+ * text in three spellings, each kind of stream of it in pieces, and a writer of its blocks, runs in a thread whose stack has the 64 KiB that the header says to be
  * enough: one that takes more runs into memory that can't be written. The stack is painted before, so that what stays as it was is what no
  * call has taken. With SAY in the environment it prints how much that was, besides what a thread takes that does nothing. */
 #define _GNU_SOURCE
@@ -49,6 +49,26 @@ static void *one_stream(void *unused)
     return unused;
 }
 
+/* Puts blocks, one by one. */
+static void *one_writer(void *unused)
+{
+    gazhdor_writer writer = GAZHDOR_CLOSED_WRITER;
+    gazhdor_text blocks = { job.bytes, job.length }, text = GAZHDOR_NO_TEXT;
+    gazhdor_answer answer = gazhdor_writer_open(&writer);
+    for (gazhdor_reader at = gazhdor_read(blocks); answer.status == GAZHDOR_GOOD && gazhdor_next(&at);) {
+        if (at.block.kind == GAZHDOR_FILE_HEADER)
+            answer = gazhdor_writer_file(&writer, at.block.bytes, at.block.length);
+        else if (at.block.kind == GAZHDOR_DEFINITION)
+            answer = gazhdor_writer_definition(&writer, at.block.bytes, at.block.length);
+        else if (at.block.kind == GAZHDOR_MESSAGE)
+            answer = gazhdor_writer_messages(&writer, at.definition.bytes, at.definition.length, at.block.bytes, at.block.length);
+    }
+    WANT(answer.status == GAZHDOR_GOOD && gazhdor_writer_finish(&writer, &text).status == GAZHDOR_GOOD);
+    gazhdor_free(text);
+    gazhdor_writer_close(&writer);
+    return unused;
+}
+
 static void *nothing(void *unused)
 {
     return unused;
@@ -72,7 +92,7 @@ static size_t taken(void *(*what)(void *))
     return STACK - left;
 }
 
-static size_t most_of_calls, most_of_streams;
+static size_t most_of_calls, most_of_streams, most_of_writers;
 
 static void see(size_t *most, void *(*what)(void *))
 {
@@ -132,6 +152,7 @@ static void see_file(const uint8_t *bytes, size_t length)
     gazhdor_text blocks = GAZHDOR_NO_TEXT;
     gazhdor_messages(bytes, length, &blocks);
     see_calls(blocks.bytes, blocks.length);
+    see(&most_of_writers, one_writer);
     gazhdor_free(blocks);
 }
 
@@ -186,7 +207,7 @@ int main(int argc, char **argv)
         free_file(file);
     }
     if (getenv("SAY") != NULL)
-        printf("calls %zu, streams %zu bytes\n", most_of_calls - own, most_of_streams - own);
-    WANT(most_of_calls - own <= SAID && most_of_streams - own <= SAID);
+        printf("calls %zu, streams %zu, writers %zu bytes\n", most_of_calls - own, most_of_streams - own, most_of_writers - own);
+    WANT(most_of_calls - own <= SAID && most_of_streams - own <= SAID && most_of_writers - own <= SAID);
     return 0;
 }

@@ -5,7 +5,7 @@
 #include <inttypes.h>
 
 /* A message with one item; gives its field. */
-static gazhdor_field message_of(gazhdor_writer *to, uint8_t *room, size_t length, uint32_t type, uint32_t scale, uint32_t offset)
+static gazhdor_field message_of(gazhdor_blocks *to, uint8_t *room, size_t length, uint32_t type, uint32_t scale, uint32_t offset)
 {
     gazhdor_field field = gazhdor_scaled(gazhdor_new_field(0, type, 1), scale, offset);
     *to = gazhdor_write(room, length, NULL, NULL);
@@ -15,7 +15,7 @@ static gazhdor_field message_of(gazhdor_writer *to, uint8_t *room, size_t length
     return field;
 }
 
-static uint64_t item(const gazhdor_writer *to, gazhdor_field field)
+static uint64_t item(const gazhdor_blocks *to, gazhdor_field field)
 {
     uint64_t raw;
     gazhdor_raw(field, gazhdor_block_at(to, to->message), 0, &raw);
@@ -23,7 +23,7 @@ static uint64_t item(const gazhdor_writer *to, gazhdor_field field)
 }
 
 /* Whether an item comes back by its value, which is NAN of one that stands for no value. */
-static int comes_back(gazhdor_writer *to, gazhdor_field field, uint64_t raw)
+static int comes_back(gazhdor_blocks *to, gazhdor_field field, uint64_t raw)
 {
     if (gazhdor_set_number(to, field, 0, raw) != GAZHDOR_PUT)
         return 0;
@@ -36,7 +36,7 @@ static void round_trips(uint32_t scale, uint32_t offset)
 {
     static const uint8_t whole[] = { 0x00, 0x01, 0x02, 0x0A, 0x83, 0x84, 0x8B, 0x85, 0x86, 0x8C, 0x8E, 0x8F, 0x90 };
     uint8_t room[256];
-    gazhdor_writer to;
+    gazhdor_blocks to;
     for (size_t i = 0; i < sizeof whole; i++) {
         gazhdor_field field = message_of(&to, room, sizeof room, whole[i], scale, offset);
         uint64_t sign = field.kind == GAZHDOR_SIGNED;
@@ -56,7 +56,7 @@ static void cases(void)
     char wanted[24];
     for (; scanf("%" SCNu32 " %" SCNu32 " %" SCNu32 " %" SCNx64 " %23s", &type, &scale, &offset, &bits, wanted) == 5; count++) {
         uint8_t room[256];
-        gazhdor_writer to;
+        gazhdor_blocks to;
         gazhdor_field field = message_of(&to, room, sizeof room, type, scale, offset);
         double value;
         memcpy(&value, &bits, 8);

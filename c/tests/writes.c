@@ -8,7 +8,7 @@
 /* ---- files that are known */
 
 /* Whether the blocks are those of a file with these bytes, as hexadecimal digits; lets them go. */
-static int is_file(gazhdor_writer *to, const char *hex)
+static int is_file(gazhdor_blocks *to, const char *hex)
 {
     uint8_t wanted[512];
     size_t length = 0;
@@ -28,7 +28,7 @@ static void two_orders(void)
 {
     gazhdor_field little[] = { gazhdor_new_field(253, GAZHDOR_TYPE_UINT32, 1), gazhdor_new_field(3, GAZHDOR_TYPE_UINT8, 1) };
     gazhdor_field big[] = { gazhdor_scaled(gazhdor_new_field(2, GAZHDOR_TYPE_UINT16, 1), 5, 500), gazhdor_new_field(8, GAZHDOR_TYPE_BYTE, 3) };
-    gazhdor_writer to = gazhdor_write(NULL, 0, gazhdor_by_realloc, NULL);
+    gazhdor_blocks to = gazhdor_write(NULL, 0, gazhdor_by_realloc, NULL);
     PUT(gazhdor_put_header(&to, 0));
     PUT(gazhdor_put_definition(&to, 0, GAZHDOR_MESSAGE_RECORD, little, 2));
     PUT(gazhdor_put_message(&to, 0));
@@ -52,7 +52,7 @@ static void developer_field(void)
     gazhdor_field described[] = { gazhdor_new_field(0, GAZHDOR_TYPE_UINT8, 1), gazhdor_new_field(1, GAZHDOR_TYPE_UINT8, 1),
         gazhdor_new_field(2, GAZHDOR_TYPE_UINT8, 1), gazhdor_new_field(3, GAZHDOR_TYPE_STRING, 3) };
     gazhdor_field before = gazhdor_new_developer(0, 5, GAZHDOR_TYPE_BYTE, 2), after = gazhdor_new_developer(0, 5, GAZHDOR_TYPE_UINT16, 1);
-    gazhdor_writer to = gazhdor_write(NULL, 0, gazhdor_by_realloc, NULL);
+    gazhdor_blocks to = gazhdor_write(NULL, 0, gazhdor_by_realloc, NULL);
     PUT(gazhdor_put_header(&to, 0));
     PUT(gazhdor_put_definition(&to, 0, GAZHDOR_MESSAGE_FIELD_DESCRIPTION, described, 4));
     PUT(gazhdor_put_definition(&to, 1, GAZHDOR_MESSAGE_RECORD, &before, 1));
@@ -79,7 +79,7 @@ static void no_values(void)
 {
     static const uint8_t codes[] = { 0, 1, 2, 7, 10, 13, 0x83, 0x84, 0x85, 0x86, 0x88, 0x89, 0x8B, 0x8C, 0x8E, 0x8F, 0x90 };
     gazhdor_field fields[17];
-    gazhdor_writer to = gazhdor_write(NULL, 0, gazhdor_by_realloc, NULL);
+    gazhdor_blocks to = gazhdor_write(NULL, 0, gazhdor_by_realloc, NULL);
     for (uint32_t i = 0; i < 17; i++)
         fields[i] = gazhdor_new_field(i, codes[i], 1);
     PUT(gazhdor_put_header(&to, 0x0102));
@@ -116,7 +116,7 @@ static void no_values(void)
     } while (0)
 
 /* Blocks at a wrong place, or with numbers that have none. */
-static void places(gazhdor_writer *to, gazhdor_field *fields)
+static void places(gazhdor_blocks *to, gazhdor_field *fields)
 {
     gazhdor_block none = { NULL, 0, 0, 0, 0, 0 };
     ANSWERS(to, GAZHDOR_PUT_ORDER, gazhdor_put_end(to));
@@ -131,13 +131,13 @@ static void places(gazhdor_writer *to, gazhdor_field *fields)
     ANSWERS(to, GAZHDOR_PUT_LOCAL, gazhdor_put_message(to, UINT32_MAX));
     ANSWERS(to, GAZHDOR_PUT_LOCAL, gazhdor_put_definition(to, 16, 20, fields, 2));
     ANSWERS(to, GAZHDOR_PUT_RANGE, gazhdor_put_definition(to, 0, 0x10000, fields, 2));
-    ANSWERS(to, GAZHDOR_PUT_LENGTH, gazhdor_put_block(to, none));
-    ANSWERS(to, GAZHDOR_PUT_ORDER, gazhdor_put_block(to, gazhdor_block_at(to, 0)));
+    ANSWERS(to, GAZHDOR_PUT_LENGTH, gazhdor_put_copy(to, none));
+    ANSWERS(to, GAZHDOR_PUT_LENGTH, gazhdor_put_copy(to, gazhdor_block_at(to, 0)));
     ANSWERS(to, GAZHDOR_PUT_ORDER, gazhdor_set_offset(to, 0));
 }
 
 /* Fields that no definition may have. */
-static void field_counts(gazhdor_writer *to)
+static void field_counts(gazhdor_blocks *to)
 {
     gazhdor_field many[512];
     for (size_t i = 0; i < 512; i++)
@@ -162,7 +162,7 @@ static void field_counts(gazhdor_writer *to)
     PUT(gazhdor_put_definition(to, 1, 0, many, 0));
 }
 
-static void descriptions(gazhdor_writer *to)
+static void descriptions(gazhdor_blocks *to)
 {
     char name[256];
     memset(name, 'n', 255);
@@ -181,7 +181,7 @@ static void descriptions(gazhdor_writer *to)
 }
 
 /* Values that a field can't have. */
-static void values(gazhdor_writer *to)
+static void values(gazhdor_blocks *to)
 {
     gazhdor_field f[] = { gazhdor_new_field(3, GAZHDOR_TYPE_UINT8, 2), gazhdor_new_field(4, GAZHDOR_TYPE_STRING, 4),
         gazhdor_new_field(5, GAZHDOR_TYPE_BYTE, 3), gazhdor_new_field(6, GAZHDOR_TYPE_SINT16, 1), gazhdor_new_field(7, GAZHDOR_TYPE_STRING, 0) };
@@ -224,7 +224,7 @@ static void values(gazhdor_writer *to)
 static void answers(void)
 {
     gazhdor_field fields[] = { gazhdor_new_field(253, GAZHDOR_TYPE_UINT32, 1), gazhdor_new_field(3, GAZHDOR_TYPE_UINT8, 1) };
-    gazhdor_writer to = gazhdor_write(NULL, 0, gazhdor_by_realloc, NULL);
+    gazhdor_blocks to = gazhdor_write(NULL, 0, gazhdor_by_realloc, NULL);
     gazhdor_text file = GAZHDOR_NO_TEXT;
     places(&to, fields);
     field_counts(&to);
@@ -263,7 +263,7 @@ static const struct {
 static void refused_blocks(void)
 {
     gazhdor_field field = gazhdor_new_field(2, GAZHDOR_TYPE_UINT16, 1);
-    gazhdor_writer to = gazhdor_write(NULL, 0, gazhdor_by_realloc, NULL);
+    gazhdor_blocks to = gazhdor_write(NULL, 0, gazhdor_by_realloc, NULL);
     static const size_t begins[] = { 0, 32, 128, 176 };
     PUT(gazhdor_put_header(&to, 0));
     PUT(gazhdor_put_definition(&to, 0, 20, &field, 1));
@@ -289,7 +289,7 @@ static void refused_blocks(void)
 /* The true checksum of the header of a file of this profile version without data is 0, which zeros in its place can't say. */
 static void unwritable(void)
 {
-    gazhdor_writer to = gazhdor_write(NULL, 0, gazhdor_by_realloc, NULL);
+    gazhdor_blocks to = gazhdor_write(NULL, 0, gazhdor_by_realloc, NULL);
     gazhdor_text file = GAZHDOR_NO_TEXT;
     PUT(gazhdor_put_header(&to, 46477));
     PUT(gazhdor_put_end(&to));
@@ -302,7 +302,7 @@ static void unwritable(void)
 /* ---- memory that is full, or refused */
 
 /* A file with a block of each kind; stops nowhere. How many calls have put a block. */
-static int small_file(gazhdor_writer *to)
+static int small_file(gazhdor_blocks *to)
 {
     gazhdor_field own = gazhdor_new_developer(0, 1, GAZHDOR_TYPE_UINT16, 1);
     gazhdor_field fields[] = { gazhdor_new_field(253, GAZHDOR_TYPE_UINT32, 1), gazhdor_new_field(3, GAZHDOR_TYPE_UINT8, 1), own };
@@ -323,7 +323,7 @@ static int small_file(gazhdor_writer *to)
 }
 
 /* Whether these are whole blocks, and as far as the first that is missing those of `whole`. */
-static int are_blocks(const gazhdor_writer *to, const gazhdor_writer *whole)
+static int are_blocks(const gazhdor_blocks *to, const gazhdor_blocks *whole)
 {
     gazhdor_text made = { to->bytes, to->length }, all = { whole->bytes, whole->length };
     gazhdor_reader at = gazhdor_read(made), wanted = gazhdor_read(all);
@@ -343,12 +343,12 @@ static uint8_t *grow_a_while(void *own, uint8_t *bytes, size_t capacity)
 
 static void rooms(void)
 {
-    gazhdor_writer whole = gazhdor_write(NULL, 0, gazhdor_by_realloc, NULL);
+    gazhdor_blocks whole = gazhdor_write(NULL, 0, gazhdor_by_realloc, NULL);
     WANT(small_file(&whole) == 7 && whole.fault == GAZHDOR_PUT);
     for (size_t capacity = 0; capacity <= whole.length; capacity++) {
         uint8_t *bytes = malloc(capacity == 0 ? 1 : capacity);
         WANT(bytes != NULL);
-        gazhdor_writer to = gazhdor_write(bytes, capacity, NULL, NULL);
+        gazhdor_blocks to = gazhdor_write(bytes, capacity, NULL, NULL);
         int put = small_file(&to);
         WANT(to.length <= capacity && to.capacity == capacity && to.bytes == bytes && are_blocks(&to, &whole));
         WANT((capacity == whole.length) == (put == 7) && (put == 7) == (to.fault == GAZHDOR_PUT));
@@ -356,7 +356,7 @@ static void rooms(void)
     }
     for (int times = 0; times < 8; times++) {
         int left = times;
-        gazhdor_writer to = gazhdor_write(NULL, 1000, grow_a_while, &left);
+        gazhdor_blocks to = gazhdor_write(NULL, 1000, grow_a_while, &left);
         int put = small_file(&to);
         WANT(are_blocks(&to, &whole) && (put == 7) == (to.fault == GAZHDOR_PUT) && (times > 0 || to.length == 0));
         free(to.bytes);
@@ -365,7 +365,7 @@ static void rooms(void)
     /* A length that has no place among all numbers isn't asked for. */
     int left = 9;
     uint8_t byte;
-    gazhdor_writer to = gazhdor_write(&byte, SIZE_MAX - 8, grow_a_while, &left);
+    gazhdor_blocks to = gazhdor_write(&byte, SIZE_MAX - 8, grow_a_while, &left);
     to.length = SIZE_MAX - 8;
     WANT(gazhdor_put_header(&to, 0) == GAZHDOR_PUT_FULL && to.length == SIZE_MAX - 8 && to.bytes == &byte && left == 9);
 }

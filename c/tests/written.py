@@ -27,8 +27,8 @@ def message(local, fields, values):
     return struct.pack('<B' + ''.join(kind for _, (_, kind) in fields), local, *values)
 
 
-def once(number, fields, values):
-    return definition(0, number, fields) + message(0, fields, values)
+def once(local, number, fields, values):
+    return definition(local, number, fields) + message(local, fields, values)
 
 
 def semicircles(degrees):
@@ -40,12 +40,13 @@ record = [(253, UINT32), (0, SINT32), (1, SINT32), (2, UINT16), (5, UINT32), (3,
 lap = [(253, UINT32), (0, ENUM), (1, ENUM), (2, UINT32), (7, UINT32), (8, UINT32), (9, UINT32)]
 session = lap + [(5, ENUM), (25, UINT16), (26, UINT16)]
 activity = [(253, UINT32), (0, UINT32), (1, UINT16), (2, ENUM), (3, ENUM), (4, ENUM)]
-data = once(0, file_id, [4, 255, START]) + definition(1, 20, record)
+# Each new definition gets its own local message type, as long as one is free.
+data = once(0, 0, file_id, [4, 255, START]) + definition(1, 20, record)
 for time, latitude, longitude, altitude, distance, heart in POINTS:
     data += message(1, record, [START + time, semicircles(latitude), semicircles(longitude), round((altitude + 500) * 5), round(distance * 100), heart])
-data += once(19, lap, [START + 15, 9, 1, START, 15000, 15000, 23130])
-data += once(18, session, [START + 15, 8, 1, START, 15000, 15000, 23130, 2, 0, 1])
-data += once(34, activity, [START + 15, 15000, 1, 0, 26, 1])
+data += once(2, 19, lap, [START + 15, 9, 1, START, 15000, 15000, 23130])
+data += once(3, 18, session, [START + 15, 8, 1, START, 15000, 15000, 23130, 2, 0, 1])
+data += once(4, 34, activity, [START + 15, 15000, 1, 0, 26, 1])
 head = struct.pack('<BBHI4s', 14, 0x20, 0, len(data), b'.FIT')
 whole = head + checksum(head) + data
 with open(sys.argv[1], 'wb') as written:

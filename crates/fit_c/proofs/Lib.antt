@@ -4,3 +4,4 @@ pub mod Pieces
 pub mod Handed
 pub mod LooseBoxes
 pub mod Handles
+pub mod WriterHandles

@@ -1,4 +1,5 @@
 pub mod Answers
 pub mod Streams
+pub mod Writers
 pub mod Laws
 pub mod inner

@@ -1,2 +1,3 @@
 -- Definitions that no public contract cites: what private functions and proofs need.
 pub mod Handles
+pub mod WriterHandles

@@ -13,8 +13,8 @@ use fit_report::ReportFault;
 #[repr(C)]
 #[derive(Clone, Copy)]
 pub struct FitAnswer {
-    /// 0 good, 1 refused, 2 truncated, 3 out of memory, 4 a row or a cell of a text refused, 5 no file has such rows, 6 the stream is
-    /// closed, 7 there is no such kind of stream, 8 a block can't stand where it is.
+    /// 0 good, 1 refused, 2 truncated, 3 out of memory, 4 a row or a cell of a text refused, 5 no file has such rows, 6 the stream or the
+    /// writer is closed, 7 there is no such kind of stream, 8 a block can't stand where it is.
     pub status: u32,
     /// With status 1 and 8 the number of the reason.
     pub reason: u32,
@@ -117,7 +117,7 @@ pub(crate) fn answer_for_report(answered: Result<(), ReportFault>) -> FitAnswer
 }
 
 /// The number of a reason of a block.
-fn block_code(reason: BlockReason) -> u32
+pub(crate) fn block_code(reason: BlockReason) -> u32
     ensures { result ≡ block_reason_code reason }
 {
     match reason {

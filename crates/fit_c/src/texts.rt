@@ -25,7 +25,7 @@ use fit_report::{Report, report};
 use std::alloc::Global;
 
 /// A sink that keeps its bytes in memory, and has none yet.
-fn memory(alloc: Global) -> WriteSink<Vec<u8>>
+pub(crate) fn memory(alloc: Global) -> WriteSink<Vec<u8>>
     ensures held { result.held ≡ Some [] }
     ensures works { result.failed ≡ false }
 {
@@ -40,7 +40,7 @@ fn handed(sink: WriteSink<Vec<u8>>) -> &'static [u8]
 }
 
 /// The bytes of a sink for good, where they are to be handed over; else none.
-fn handed_where(good: bool, sink: WriteSink<Vec<u8>>) -> &'static [u8]
+pub(crate) fn handed_where(good: bool, sink: WriteSink<Vec<u8>>) -> &'static [u8]
     ensures good { good ≡ true → Some result.now ≡ sink.held }
     ensures nothing { good ≡ false → result.now ≡ [] }
 {

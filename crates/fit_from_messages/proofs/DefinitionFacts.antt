@@ -16,7 +16,7 @@ use Rattle.fit_from_messages.specs.Parts.{size_fits, slot_in, slots_in}
 use Rattle.fit_from_messages.specs.Alone.{why_no_parts}
 use Rattle.fit_from_messages.specs.SaysChain.{Begun, why_no_definition, known_to}
 use Rattle.fit_from_messages.specs.inner.Cutting.{is_small}
-use Rattle.fit_from_messages.specs.inner.Misfits.{FailsBy, IsMisfitBlock}
+use Rattle.fit_from_messages.specs.Misfits.{FailsBy, IsMisfitBlock}
 
 -- a size that has no byte doesn't fit
 large_fails : (code : List ℕ → ℕ) (es : List (List ℕ)) → list_all is_small es ≡ false → list_all (λ e. size_fits (code e) e) es ≡ false

@@ -21,5 +21,5 @@ mod LoneBlocks
 mod SoundFiles
 mod DefinedSlots
 mod HeaderForms
-mod ReadChains
+pub mod ReadChains
 mod WrittenBlocks

@@ -9,7 +9,7 @@ use Rattle.fit_from_messages.specs.declared.misfit.Misfit.{Misfit}
 use Rattle.fit_from_messages.specs.Alone.{why_no_kind, why_no_lone_definition, why_no_parts}
 use Rattle.fit_from_messages.specs.Parts.{byte_at, dev_entries, field_entries, size_fits}
 use Rattle.fit_from_messages.specs.inner.Definitions.{IsReadable}
-use Rattle.fit_from_messages.specs.inner.Misfits.{IsMisfitBlock}
+use Rattle.fit_from_messages.specs.Misfits.{IsMisfitBlock}
 
 -- what is found after the kind is right
 pub after_kind : (n : ℕ) (block : List ℕ) (found first : Option BlockReason) (misfit : Misfit) → found ≡ why_no_kind n block → found ≡ None

@@ -20,7 +20,7 @@ use Rattle.fit_from_messages.specs.declared.file.OpenFile.{OpenFile}
 use Rattle.fit_from_messages.specs.declared.misfit.Misfit.{Misfit}
 use Rattle.fit_from_messages.specs.declared.misfit.Misfit.TheVariants as misfit
 use Rattle.fit_from_messages.specs.inner.Chains.{AreSaid, HasSaid, IsUnreadBlock, IsGoodChain, IsGoodCurrent, fault_at, said_yet}
-use Rattle.fit_from_messages.specs.inner.Misfits.{IsMisfitBlock}
+use Rattle.fit_from_messages.specs.Misfits.{IsMisfitBlock}
 use Rattle.fit_from_messages.specs.inner.OpenFiles.{begun_of}
 
 -- ---- one block more
@@ -31,7 +31,7 @@ say_more s t [] block say is stands =
     (is, ap (λ x. reason x block) say ∙ stands, ap (λ x. after x block) say)
 say_more s t (b ∷ blocks) block say is stands = (say.0, say.1, say_more (after s b) t blocks block say.2 is stands)
 
-joined_more : (blocks : List (List ℕ)) (block left : List ℕ) → joined_blocks (blocks ++ block ∷ []) ++ left ≡ joined_blocks blocks ++ (block ++ left)
+pub joined_more : (blocks : List (List ℕ)) (block left : List ℕ) → joined_blocks (blocks ++ block ∷ []) ++ left ≡ joined_blocks blocks ++ (block ++ left)
 joined_more blocks block left =
     ap (λ x. x ++ left) (flat_map-append (λ (b : List ℕ). b) blocks (block ∷ [])
     ∙ ap (λ x. joined_blocks blocks ++ x) (append-nil block)) ∙ append_assoc (joined_blocks blocks) block left

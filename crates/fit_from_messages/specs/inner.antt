@@ -1,6 +1,5 @@
 -- Definitions that no public contract cites: what private functions and proofs need.
 pub mod Cutting
-pub mod Misfits
 pub mod Slots
 pub mod OpenFiles
 pub mod Chains

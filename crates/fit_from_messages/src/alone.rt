@@ -14,7 +14,7 @@ ghost use Rattle.fit_from_messages.specs.Alone.{codes_in, lone_layout, message_w
 ghost use Rattle.fit_from_messages.specs.Parts as parts;
 ghost use Rattle.fit_from_messages.specs.Parts.{byte_at, definition_in, dev_entries, entries_of, items_read, size_fits, slots_in};
 ghost use Rattle.fit_from_messages.specs.Slots.{IsSlot, SlotsFit, slot_size};
-ghost use Rattle.fit_from_messages.specs.inner.Misfits.{FailsBy, IsMisfitBlock};
+ghost use Rattle.fit_from_messages.specs.Misfits.{FailsBy, IsMisfitBlock};
 
 use crate::definition::read_definition;
 use crate::entries::{entries_in, split_entry};

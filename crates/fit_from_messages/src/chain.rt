@@ -5,7 +5,7 @@ ghost use Rattle.fit_frame.specs.Header.{FormFits};
 ghost use Rattle.fit_from_messages.specs.SaysChain.{IsBlock, after, nothing_said, reason};
 ghost use Rattle.fit_from_messages.specs.declared.misfit.Misfit.TheVariants.{NoMemory};
 ghost use Rattle.fit_from_messages.specs.inner.Chains.{IsGoodChain, said_yet};
-ghost use Rattle.fit_from_messages.specs.inner.Misfits.{IsMisfitBlock};
+ghost use Rattle.fit_from_messages.specs.Misfits.{IsMisfitBlock};
 ghost use Rattle.fit_from_messages.specs.inner.OpenFiles.{IsGoodFile, begun_of};
 
 use crate::BlockReason;

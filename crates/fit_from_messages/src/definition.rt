@@ -5,7 +5,7 @@ ghost use Rattle.fit_from_messages.specs.Parts as parts;
 ghost use Rattle.fit_from_messages.specs.Parts.{definition_in, slots_in};
 ghost use Rattle.fit_from_messages.specs.SaysChain.{Begun, why_no_definition};
 ghost use Rattle.fit_from_messages.specs.inner.Definitions.{IsReadable};
-ghost use Rattle.fit_from_messages.specs.inner.Misfits.{IsMisfitBlock};
+ghost use Rattle.fit_from_messages.specs.Misfits.{IsMisfitBlock};
 
 use crate::BlockReason;
 use crate::entries::entries_in;

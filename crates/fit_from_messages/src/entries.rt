@@ -7,8 +7,8 @@ ghost use Rattle.fit_from_messages.specs.inner.Cutting.{left_of};
 
 use crate::parts::short_at;
 
-/// How many bytes a text has before its first zero.
-fn text_length(bytes: &[u8]) -> usize
+/// How many bytes a text of a block has before its first zero.
+pub fn text_length(bytes: &[u8]) -> usize
     ensures length { result ≡ parts.text_length bytes.now }
     ensures within { result ≤ length bytes.now }
 {

@@ -2,7 +2,7 @@
 ghost use Rattle.std.specs.Prelude.{◌≡◌, ◌≤◌, ◌++◌, IfErr, IfOk, IfSome, IsNone, OnOk, drop, false, length, map, take, nat_lt, true};
 ghost use Rattle.std.specs.List.{list_all};
 ghost use Rattle.fit_from_messages.specs.Parts.{byte_at, dev_in, entries_of, entry_size, entry_stands, field_in, number_read, size_fits, slot_in};
-ghost use Rattle.fit_from_messages.specs.inner.Misfits.{FailsBy};
+ghost use Rattle.fit_from_messages.specs.Misfits.{FailsBy};
 ghost use Rattle.fit_from_messages.specs.inner.Cutting.{is_small};
 
 use crate::BlockReason;

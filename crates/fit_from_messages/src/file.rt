@@ -7,7 +7,7 @@ ghost use Rattle.fit_record.specs.Environment.{defined_at, empty_environment, le
 ghost use Rattle.fit_record.specs.Records.{DefinitionFits, dev_layout};
 ghost use Rattle.fit_from_messages.specs.SaysChain.{after_definition, after_message, why_no_definition, why_no_message};
 ghost use Rattle.fit_from_messages.specs.inner.Cutting.{widths_fit};
-ghost use Rattle.fit_from_messages.specs.inner.Misfits.{IsMisfitBlock};
+ghost use Rattle.fit_from_messages.specs.Misfits.{IsMisfitBlock};
 ghost use Rattle.fit_from_messages.specs.inner.OpenFiles.{IsGoodFile, begun_of};
 
 use crate::BlockReason;

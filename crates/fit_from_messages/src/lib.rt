@@ -20,10 +20,10 @@ mod slot;
 pub use alone::{
     LoneDefinition, is_lone_message, lone_definition, lone_header, slots_stand, spell_lone,
 };
-pub use entries::split_entry;
+pub use entries::{split_entry, text_length};
 pub use fault::{BlockReason, BlocksFault};
 pub use from::from_messages;
 pub use message::MessageFront;
 pub use misfit::Misfit;
-pub use parts::{short_at, word_at};
+pub use parts::{first_block, short_at, word_at};
 pub use slot::Slot;

@@ -10,7 +10,7 @@ ghost use Rattle.fit_record.specs.Records.{DataHeaderFits, IsRecord, data_header
 ghost use Rattle.fit_from_messages.specs.Parts as parts;
 ghost use Rattle.fit_from_messages.specs.Parts.{byte_at, items_read, slot_stands};
 ghost use Rattle.fit_from_messages.specs.SaysChain.{Begun, message_said, why_no_message};
-ghost use Rattle.fit_from_messages.specs.inner.Misfits.{IsMisfitBlock};
+ghost use Rattle.fit_from_messages.specs.Misfits.{IsMisfitBlock};
 ghost use Rattle.fit_from_messages.specs.inner.Slots.{Knows};
 ghost use Rattle.fit_from_messages.specs.Slots.{IsSlot, SlotsFit, slot_size};
 

@@ -41,7 +41,7 @@ pub fn word_at(place: usize, bytes: &[u8]) -> u32
 
 /// The first block of some bytes, and the bytes after it. None where they don't begin with one.
 #[inline(always)]
-pub(crate) fn first_block(bytes: &[u8]) -> Option<(&[u8], &[u8])>
+pub fn first_block(bytes: &[u8]) -> Option<(&[u8], &[u8])>
     ensures block { IfSome result (λ p. IsBlock p.0.now) }
     ensures rest { IfSome result (λ p. bytes.now ≡ p.0.now ++ p.1.now) }
     ensures none { IsNone result → (block more : List ℕ) → bytes.now ≡ block ++ more

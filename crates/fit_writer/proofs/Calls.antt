@@ -17,6 +17,7 @@ use Rattle.fit_record.specs.declared.message.Record.TheVariants.{Define}
 use Rattle.fit_from_messages.specs.Alone.{codes_in, why_no_lone_definition, why_no_lone_message, why_no_message_at}
 use Rattle.fit_from_messages.specs.Parts.{definition_in, dev_entries, entries_of, slots_in}
 use Rattle.fit_from_messages.specs.declared.alone.LoneDefinition.{LoneDefinition}
+use Rattle.fit_from_messages.specs.declared.slot.Slot.{Slot}
 use Rattle.fit_writer.proofs.LoneForms.{same_form}
 use Rattle.fit_writer.specs.Reading.{Form, entry_naming, entry_namings, form_in}
 use Rattle.fit_writer.specs.Written.{Current, EndsFile, IsDefinitionRefusal, IsEnded, IsMessageRefusal, KeepsAll, PutsMessage, Writing, file_count}
@@ -61,12 +62,12 @@ keeps_all files old new f g block why same half = go why (subst (λ (h : Form). 
     go Described is = held is
     go TooLong is = held is
 
-pub message_refusal : (c : Current) (definition block : List ℕ) (f : Form) (d : LoneDefinition) (why : Refusal)
-    → why_no_lone_definition definition ≡ None → f ≡ form_in definition → d.slots ≡ slots_in definition
-    → IsRefusedPut c.records f block (why_no_message_at block d.slots) why → IsMessageRefusal (Some c) definition block why
-message_refusal c definition block f d why stands same slots refused =
+pub refusal_at : (c : Current) (definition block : List ℕ) (f : Form) (slots : List Slot) (why : Refusal) → why_no_lone_definition definition ≡ None
+    → f ≡ form_in definition → slots ≡ slots_in definition → IsRefusedPut c.records f block (why_no_message_at block slots) why
+    → IsMessageRefusal (Some c) definition block why
+refusal_at c definition block f slots why stands same are refused =
     go why (subst (λ (h : Form). IsRefusedPut c.records h block (why_no_lone_message definition block) why) same
-    (subst (λ o. IsRefusedPut c.records f block o why) (ap (why_no_message_at block) slots) refused))
+    (subst (λ o. IsRefusedPut c.records f block o why) (ap (why_no_message_at block) are) refused))
   where
     go : (why : Refusal) → IsRefusedPut c.records (form_in definition) block (why_no_lone_message definition block) why
         → IsMessageRefusal (Some c) definition block why
@@ -79,6 +80,11 @@ message_refusal c definition block f d why stands same slots refused =
     go Time is = (stands, is.0, is.1)
     go Described is = (stands, is.0, is.1)
     go TooLong is = (stands, is.0, is.1)
+
+pub message_refusal : (c : Current) (definition block : List ℕ) (f : Form) (d : LoneDefinition) (why : Refusal)
+    → why_no_lone_definition definition ≡ None → f ≡ form_in definition → d.slots ≡ slots_in definition
+    → IsRefusedPut c.records f block (why_no_message_at block d.slots) why → IsMessageRefusal (Some c) definition block why
+message_refusal c definition block f d why stands same slots refused = refusal_at c definition block f d.slots why stands same slots refused
 
 pub definition_refusal : (c : Current) (block : List ℕ) (d : MessageDef Global) (why : Refusal) → why_no_lone_definition block ≡ None
     → d ≡ definition_in block → IsUnput (Define d ∷ c.records) why → IsDefinitionRefusal (Some c) block why

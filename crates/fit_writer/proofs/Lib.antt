@@ -1,5 +1,6 @@
 mod AllRead
 mod Calls
+mod DescribedNow
 mod Ends
 mod Grown
 mod LoneForms
@@ -7,5 +8,6 @@ mod Namings
 mod OwnTimes
 mod Puts
 mod ReadThere
+mod Runs
 mod SameDevs
 mod WholeFiles

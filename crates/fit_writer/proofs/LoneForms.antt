@@ -1,5 +1,5 @@
 -- Definitions that stand by themselves, and the bytes of their messages.
-use Rattle.std.proofs.Common.{◌≡◌, ◌∙◌, ℕ, ◌<◌, Bool, true, false, cond, List, [], ◌∷◌, ◌++◌, length, map, refl, sym, ap, ap₂, subst, arith}
+use Rattle.std.proofs.Common.{◌≡◌, ◌∙◌, ℕ, ◌<◌, Bool, true, false, cond, List, ◌∷◌, ◌++◌, length, map, refl, sym, ap, ap₂, subst, arith}
 use Rattle.std.specs.Global.{Global}
 use Rattle.std.specs.List.{list_all}
 use Rattle.std.specs.Prelude.{Option, Some, None, zip, ◌&&◌, nat_le}
@@ -20,18 +20,14 @@ use Rattle.fit_from_messages.specs.Parts.{entries_of, entry_stands, number_read,
 use Rattle.fit_from_messages.specs.Slots.{SlotsFit}
 use Rattle.fit_from_messages.specs.declared.alone.LoneDefinition.{LoneDefinition}
 use Rattle.fit_from_messages.specs.declared.slot.Slot.{Slot}
-use Rattle.fit_writer.proofs.Puts.{no_namings}
-use Rattle.fit_writer.proofs.ReadThere.{none_long, says_own}
+use Rattle.fit_writer.proofs.ReadThere.{says_own}
 use Rattle.fit_writer.specs.Reading.{Form, dated, entry_naming, header_time_in, timestamp_field, values_by}
-use Rattle.fit_writer.specs.Written.{SaysSame, with_local}
+use Rattle.fit_writer.specs.Written.{SaysSame, WouldSaySame, with_local}
 use Rattle.fit_writer.specs.inner.Places.{IsLone, form_of}
 use Rattle.fit_writer.specs.inner.Spelled.{IsSpelled}
 
 pub local_fits : (d : MessageDef Global) (local : ℕ) → DefinitionFits d → local < 16 → DefinitionFits (with_local d local)
 local_fits d local fits few = record { local = few; global = fits.global; fields = fits.fields; dev_fields = fits.dev_fields }
-
-pub no_devs : (codes : List ℕ) (dev : List DevDef) → length codes ≡ length dev → codes ≡ [] → dev ≡ []
-no_devs codes dev many none = none_long dev (sym many ∙ ap length none)
 
 -- ---- where another definition says the same
 
@@ -76,18 +72,13 @@ spelled_as d block order local offset slots bytes same spelled e p there orders 
     (subst (λ (ss : List Slot). IsRecord e (Data (message_with block ss (length p.definition.fields) local offset)) bytes) same
     (spelled e p there orders (subst (λ (ss : List Slot). SlotsFit (layout p ++ dev_layout p) ss) (sym same) fit)))
 
--- and where its own has just come, which has no developer fields
-pub own_same : (s : List (Record Global)) (local : ℕ) (d : LoneDefinition) → IsLone d → d.codes ≡ [] → local < 16
-    → SaysSame (Define (with_local d.definition local) ∷ s) local (form_of d) (defined_by (known s) (with_local d.definition local))
-own_same s local d lone none few =
-    says_own s (form_of d) local few (no_devs d.codes (dev_defs d.definition.dev) lone.many none) none (no_namings d.codes d.dev.now none)
-
+-- and where its own has just come
 pub spelled_own : (s : List (Record Global)) (local : ℕ) (d : LoneDefinition) (block : List ℕ) (offset : Option ℕ) (bytes : List ℕ) → IsLone d
-    → d.codes ≡ [] → local < 16 → IsSpelled (form_of d) block d.definition.order local offset bytes
+    → WouldSaySame s (form_of d) → local < 16 → IsSpelled (form_of d) block d.definition.order local offset bytes
     → IsRecord (known (Define (with_local d.definition local) ∷ s)) (Data (values_by (form_of d) block local offset)) bytes
-spelled_own s local d block offset bytes lone none few spelled =
+spelled_own s local d block offset bytes lone same few spelled =
     spelled_there (Define (with_local d.definition local) ∷ s) local d block d.definition.order offset bytes
-    (defined_by (known s) (with_local d.definition local)) lone (own_same s local d lone none few) refl spelled
+    (defined_by (known s) (with_local d.definition local)) lone (says_own s (form_of d) local few same) refl spelled
 
 -- ---- with a timestamp
 

@@ -1,24 +1,23 @@
 -- Messages that are put, as their readers are told them, and why others aren't put.
 use Rattle.std.proofs.Common.{◌≡◌, ◌∙◌, ℕ, ◌<◌, inl, inr, Bool, true, false}
-use Rattle.std.proofs.Common.{cond, List, [], ◌∷◌, length, map, refl, sym, ap, subst, arith}
-use Rattle.std.proofs.lemmas.Bool.{eqb-true}
+use Rattle.std.proofs.Common.{cond, List, ◌∷◌, refl, sym, ap, subst, arith}
 use Rattle.std.specs.Global.{Global}
-use Rattle.std.specs.Prelude.{Option, Some, None, IfSome, is_some, nat_lt, ◌==◌}
+use Rattle.std.specs.Prelude.{Option, Some, None, IfSome, is_some, nat_lt}
 use Rattle.fit_record.specs.declared.definition.MessageDef.{MessageDef}
 use Rattle.fit_record.specs.declared.environment.Defined.{Defined}
 use Rattle.fit_record.specs.declared.message.Record.{Record}
 use Rattle.fit_record.specs.declared.message.Record.TheVariants.{Define, Values as Data}
-use Rattle.fit_record.specs.Environment.{defined_at, dev_defs}
+use Rattle.fit_record.specs.Environment.{defined_at}
 use Rattle.fit_record.specs.Faults.{or_else}
 use Rattle.fit_record.specs.Records.{DataHeaderFits}
 use Rattle.fit_profile.specs.Looks.{known}
 use Rattle.fit_profile.specs.Times.{header_time, previous_time, valid_time}
-use Rattle.fit_from_messages.specs.Parts.{entries_of, number_read, offset_in}
+use Rattle.fit_from_messages.specs.Parts.{number_read, offset_in}
 use Rattle.fit_from_messages.specs.declared.fault.BlockReason.{BlockReason}
-use Rattle.fit_writer.proofs.ReadThere.{none_long, read_there, same_after, says_own}
+use Rattle.fit_writer.proofs.ReadThere.{read_there, same_after, says_own}
 use Rattle.fit_writer.specs.Reading.{Form, Reading, dated, header_time_in}
-use Rattle.fit_writer.specs.Reading.{entry_naming, fields_time, said_reading, values_by}
-use Rattle.fit_writer.specs.Written.{IsNeeded, IsPlaced, IsPut, KeepsOffset, NeedsTimestamp, SaysSame, with_local}
+use Rattle.fit_writer.specs.Reading.{fields_time, said_reading, values_by}
+use Rattle.fit_writer.specs.Written.{CanName, IsNeeded, IsPlaced, IsPut, KeepsOffset, NeedsTimestamp, SaysSame, WouldSaySame, with_local}
 use Rattle.fit_writer.specs.declared.refusal.Refusal.{Refusal}
 use Rattle.fit_writer.specs.declared.refusal.Refusal.TheVariants.{NoFile, Block, Message, TooManyFiles, Full, Time, Described, TooLong, NoMemory}
 use Rattle.fit_writer.specs.inner.OpenFiles.{IsUnput}
@@ -50,31 +49,23 @@ told_known s local f block offset same own = record {
   };
 }
 
-pub no_namings : (codes entries : List ℕ) → codes ≡ [] → map entry_naming (entries_of (length codes) entries) ≡ []
-no_namings codes entries none = ap (λ (c : List ℕ). map entry_naming (entries_of (length c) entries)) none
-
-pub told_both : (s : List (Record Global)) (local : ℕ) (f : Form) (block entries : List ℕ) (offset : Option ℕ) → local < 16 → dev_defs f.definition.dev ≡ []
-    → f.codes ≡ [] → f.namings ≡ map entry_naming (entries_of (length f.codes) entries)
+pub told_both : (s : List (Record Global)) (local : ℕ) (f : Form) (block : List ℕ) (offset : Option ℕ) → local < 16 → WouldSaySame s f
     → ((k : ℕ) (p : Defined Global) → k < limit_of offset → SaysSame s k f p → ⊥)
     → (f.definition.local < limit_of offset → defined_at (known s) f.definition.local ≡ None → local ≡ f.definition.local)
     → ((k : ℕ) → k < limit_of offset → defined_at (known s) k ≡ None → defined_at (known s) local ≡ None)
     → IsTold s f block offset (Data (values_by f block local offset) ∷ Define (with_local f.definition local) ∷ s)
-told_both s local f block entries offset few dev codes namings none own free = record {
+told_both s local f block offset few same none own free = record {
   defined = Some (with_local f.definition local);
   message = values_by f block local offset;
   records = refl;
   told = read_there (Define (with_local f.definition local) ∷ s) local f block offset _
-      (says_own s f local few dev codes (namings ∙ no_namings f.codes entries codes))
+      (says_own s f local few same)
       ∙ ap Some (same_after s (with_local f.definition local) f block offset);
   offset_is = refl;
   seated = record {
-    own = λ p less same. absurd (none f.definition.local p less same);
+    own = λ p less there. absurd (none f.definition.local p less there);
     fresh = λ d is. none;
-    defines = λ d is. (
-      sym (some_is (with_local f.definition local) d is),
-      ap (λ (e : MessageDef Global). dev_defs e.dev) (sym (some_is
-          (with_local f.definition local) d is)) ∙ dev,
-    );
+    defines = λ d is. (sym (some_is (with_local f.definition local) d is), same);
     own_free = λ d is. own;
     free = λ d is. free;
   };
@@ -95,9 +86,6 @@ own_found s f found local limit offset is same own p less says =
 
 pub under : (n limit : ℕ) (offset : Option ℕ) → limit ≡ limit_of offset → n < limit_of offset → n < limit
 under n limit offset is less = subst (λ (k : ℕ). n < k) (sym is) less
-
-pub is_none : (codes : List ℕ) (b : Bool) → b ≡ (length codes == 0) → b ≡ true → codes ≡ []
-is_none codes b is empty = none_long codes (eqb-true (length codes) 0 (sym is ∙ empty))
 
 -- why it wasn't
 pub unplaced : (s : List (Record Global)) (f : Form) (block : List ℕ) (offset : Option ℕ) (after : List (Record Global)) (why : Refusal)
@@ -153,14 +141,6 @@ same_told s f g block offset (inr (t, loses, few, less, same)) kept =
     ap (at_time (said_reading g block)) (ap (λ (o : Option ℕ). or_else o (header_time (previous_time s) offset)) own
     ∙ sym (ap (λ (o : Option ℕ). or_else o (header_time_in block)) own))
 
-same_dev : (f g : Form) (block : List ℕ) (kept : Bool) → IsChosen f block kept g → dev_defs g.definition.dev ≡ dev_defs f.definition.dev
-same_dev f g block kept (inl (never, same)) = ap (λ (h : Form). dev_defs h.definition.dev) same
-same_dev f g block kept (inr (t, loses, few, less, same)) = ap (λ (h : Form). dev_defs h.definition.dev) same
-
-pub no_codes : (f g : Form) (block : List ℕ) (kept : Bool) → IsChosen f block kept g → length g.codes ≡ length (dev_defs g.definition.dev)
-    → dev_defs f.definition.dev ≡ [] → g.codes ≡ []
-no_codes f g block kept chosen many none = none_long g.codes (many ∙ ap length (same_dev f g block kept chosen ∙ none))
-
 -- ---- why it can't be put
 
 keeps : (s : List (Record Global)) (block : List ℕ) (offset : Option ℕ) → IsKeptOffset s block offset → is_some offset ≡ true → KeepsOffset s block
@@ -212,7 +192,7 @@ no_offset s block (Some o) kept lost = absurd (lost (keeps s block (Some o) kept
 no_offset s block None kept lost = refl
 
 placed_as : (s : List (Record Global)) (g : Form) (block : List ℕ) (offset : Option ℕ) (defined : Option (MessageDef Global)) (local : ℕ)
-    → IsKeptOffset s block offset → IsSeated s g (limit_of offset) defined local → IsPlaced s g block defined local
+    → IsKeptOffset s block offset → IsSeated s g (limit_of offset) defined local → IsPlaced s g (CanName s block) defined local
 placed_as s g block offset defined local kept seated = record {
   own = λ p names same. seated.own p (within s block offset g.definition.local kept names.0 names.1) same;
   fresh = λ d is k p names same. seated.fresh d is k p (within s block offset k kept names.0 names.1) same;
@@ -237,23 +217,23 @@ put_as s f g block offset after chosen kept told = record {
 
 -- of the place
 pub refused_place : (s : List (Record Global)) (f g : Form) (block : List ℕ) (offset : Option ℕ) (first : Option BlockReason) (why : Refusal)
-    → first ≡ None → (dev_defs f.definition.dev ≡ [] → g.codes ≡ []) → IsKeptOffset s block offset → IsChosen f block (is_some offset) g
+    → first ≡ None → IsKeptOffset s block offset → IsChosen f block (is_some offset) g
     → IsUnplaced s g block offset why → IsRefusedPut s f block first why
-refused_place s f g block offset first Described none dev kept chosen (some, never) = (
+refused_place s f g block offset first Described none kept chosen (other, never) = (
   none,
   (
     g,
     is_needed s f g block offset kept chosen,
-    λ empty. some (dev empty),
+    other,
     λ local p names same. never local p (within s block offset local kept names.0 names.1) same,
   ),
 )
-refused_place s f g block offset first TooLong none dev kept chosen (after, told, long) =
+refused_place s f g block offset first TooLong none kept chosen (after, told, long) =
     (none, (after, put_as s f g block offset after chosen kept told, long))
-refused_place s f g block offset first NoMemory none dev kept chosen h = tt
-refused_place s f g block offset first NoFile none dev kept chosen h = absurd h
-refused_place s f g block offset first (Block reason) none dev kept chosen h = absurd h
-refused_place s f g block offset first (Message reason) none dev kept chosen h = absurd h
-refused_place s f g block offset first TooManyFiles none dev kept chosen h = absurd h
-refused_place s f g block offset first Full none dev kept chosen h = absurd h
-refused_place s f g block offset first Time none dev kept chosen h = absurd h
+refused_place s f g block offset first NoMemory none kept chosen h = tt
+refused_place s f g block offset first NoFile none kept chosen h = absurd h
+refused_place s f g block offset first (Block reason) none kept chosen h = absurd h
+refused_place s f g block offset first (Message reason) none kept chosen h = absurd h
+refused_place s f g block offset first TooManyFiles none kept chosen h = absurd h
+refused_place s f g block offset first Full none kept chosen h = absurd h
+refused_place s f g block offset first Time none kept chosen h = absurd h

@@ -5,16 +5,17 @@ use Rattle.std.specs.Global.{Global}
 use Rattle.fit_frame.specs.declared.header.Header.{Header}
 use Rattle.fit_frame.specs.declared.header.HeaderSum.TheVariants.{True}
 use Rattle.fit_frame.specs.Header.{ZeroIsSum}
+use Rattle.fit_record.specs.declared.definition.DevDef.{DevDef}
 use Rattle.fit_record.specs.declared.definition.MessageDef.{MessageDef}
 use Rattle.fit_record.specs.declared.environment.Defined.{Defined}
 use Rattle.fit_record.specs.declared.file.FitFile.{FitFile}
 use Rattle.fit_record.specs.declared.message.Record.{Record}
 use Rattle.fit_record.specs.declared.message.Record.TheVariants.{Define, Values as Data}
 use Rattle.fit_record.specs.declared.message.Values.{Values}
-use Rattle.fit_record.specs.Environment.{defined_at, dev_defs, empty_environment}
+use Rattle.fit_record.specs.Environment.{defined_at, dev_code, dev_defs, empty_environment}
 use Rattle.fit_record.specs.Files.{chain_limit}
 use Rattle.fit_record.specs.Records.{records_bytes}
-use Rattle.fit_profile.specs.Described.{namings_at}
+use Rattle.fit_profile.specs.Described.{Naming, namings_at, naming_of}
 use Rattle.fit_profile.specs.Looks.{known}
 use Rattle.fit_profile.specs.Times.{header_time, previous_time}
 use Rattle.fit_from_messages.specs.Alone.{why_no_lone_definition, why_no_lone_header, why_no_lone_message}
@@ -83,6 +84,20 @@ pub record SaysSame (before : List (Record Global)) (local : ℕ) (f : Form) (p 
   pub codes : p.dev_codes ≡ f.codes
   pub namings : namings_at before local ≡ f.namings
 
+-- A developer field that is defined now gets this base type, name and unit.
+abbrev pub IsDescribed : List (Record Global) → DevDef → ℕ → Naming → Type 0
+IsDescribed before d code n = (dev_code (known before) d ≡ code) × (naming_of before d.index d.number ≡ n)
+
+-- each of these developer fields
+abbrev pub AreDescribed : List (Record Global) → List DevDef → List ℕ → List Naming → Type 0
+AreDescribed before [] [] [] = Unit {0}
+AreDescribed before (d ∷ devs) (code ∷ codes) (n ∷ namings) = IsDescribed before d code n × AreDescribed before devs codes namings
+AreDescribed before _ _ _ = ⊥
+
+-- A definition message that came now would be read as this form.
+abbrev pub WouldSaySame : List (Record Global) → Form → Type 0
+WouldSaySame before f = AreDescribed before (dev_defs f.definition.dev) f.codes f.namings
+
 -- records with a definition message after them, where there is one
 abbrev pub with_definition : Option (MessageDef Global) → List (Record Global) → List (Record Global)
 with_definition None before = before
@@ -115,17 +130,16 @@ CanName before block local = (local < 16) × (KeepsOffset before block → local
 abbrev pub with_local : MessageDef Global → ℕ → MessageDef Global
 with_local d local = record d { local = local }
 
--- Which local message type a message of this form gets, and when a definition message comes before it: only where none that its header can
--- name says the same, and never with developer fields. A local message type that says the same or is free is taken before others, and first
--- of all that of the block of the definition.
-pub record IsPlaced (before : List (Record Global)) (form : Form) (block : List ℕ) (defined : Option (MessageDef Global)) (local : ℕ) : Type 0 where
-  pub own : (p : Defined Global) → CanName before block form.definition.local → SaysSame before form.definition.local form p
+-- Which of the local message types that its header can name a message of this form gets, and when a definition message comes before it: only
+-- where none of them says the same, and where what is described now gives its developer fields these base types, names and units. A local
+-- message type that says the same or is free is taken before others, and first of all that of the block of the definition.
+pub record IsPlaced (before : List (Record Global)) (form : Form) (names : ℕ → Type 0) (defined : Option (MessageDef Global)) (local : ℕ) : Type 0 where
+  pub own : (p : Defined Global) → names form.definition.local → SaysSame before form.definition.local form p → local ≡ form.definition.local
+  pub fresh : (d : MessageDef Global) → defined ≡ Some d → (k : ℕ) (p : Defined Global) → names k → SaysSame before k form p → ⊥
+  pub defines : (d : MessageDef Global) → defined ≡ Some d → (d ≡ with_local form.definition local) × WouldSaySame before form
+  pub own_free : (d : MessageDef Global) → defined ≡ Some d → names form.definition.local → defined_at (known before) form.definition.local ≡ None
       → local ≡ form.definition.local
-  pub fresh : (d : MessageDef Global) → defined ≡ Some d → (k : ℕ) (p : Defined Global) → CanName before block k → SaysSame before k form p → ⊥
-  pub defines : (d : MessageDef Global) → defined ≡ Some d → (d ≡ with_local form.definition local) × (dev_defs d.dev ≡ [])
-  pub own_free : (d : MessageDef Global) → defined ≡ Some d → CanName before block form.definition.local
-      → defined_at (known before) form.definition.local ≡ None → local ≡ form.definition.local
-  pub free : (d : MessageDef Global) → defined ≡ Some d → (k : ℕ) → CanName before block k → defined_at (known before) k ≡ None
+  pub free : (d : MessageDef Global) → defined ≡ Some d → (k : ℕ) → names k → defined_at (known before) k ≡ None
       → defined_at (known before) local ≡ None
 
 -- A message was put after these records, in the form that it needs: a reader is told what a block of that form says. Its time offset is kept
@@ -139,16 +153,19 @@ pub record IsPut (before after : List (Record Global)) (f : Form) (block : List 
   pub told : reading_after (with_definition defined before) message ≡ Some (said_reading form block)
   pub kept : KeepsOffset before block → message.offset ≡ offset_in block
   pub without : (KeepsOffset before block → ⊥) → message.offset ≡ None
-  pub placed : IsPlaced before form block defined message.local
+  pub placed : IsPlaced before form (CanName before block) defined message.local
 
 abbrev pub PutsMessage : Writing → Writing → Form → List ℕ → Type 0
 PutsMessage old new form block =
     IsSomeAnd old.current (λ f. (after : List (Record Global)) × IsPut f.records after form block × (new ≡ with_records old f after))
 
+-- Just this definition message was put, for some local message type.
+abbrev pub PutsDefining : List (Record Global) → List (Record Global) → MessageDef Global → Type 0
+PutsDefining before after d = (local : ℕ) × (after ≡ Define (with_local d local) ∷ before)
+
 -- Of the message just the definition message was put that it needs.
 abbrev pub PutsHalf : List (Record Global) → List (Record Global) → Form → List ℕ → Type 0
-PutsHalf before after f block =
-    (needed : Form) × IsNeeded before f block needed × (local : ℕ) × (after ≡ Define (with_local needed.definition local) ∷ before)
+PutsHalf before after f block = (needed : Form) × IsNeeded before f block needed × PutsDefining before after needed.definition
 
 -- After a refusal nothing has changed; but where memory was refused, the definition message that the message needs may have been put.
 abbrev pub KeepsAll : Writing → Writing → Form → List ℕ → Refusal → Type 0
@@ -176,12 +193,13 @@ IsDefinitionRefusal (Some f) block NoMemory = Unit {0}
 IsDefinitionRefusal (Some f) block _ = ⊥
 
 -- The blocks stand, but the message can't come after these records: a timestamp is needed where there are 255 fields or the time is the
--- number that stands for none; no definition that its header can name describes its developer fields so; or the data would be too long.
+-- number that stands for none; no definition that its header can name describes its developer fields so, nor would one that
+-- came now; or the data would be too long.
 abbrev pub IsPlaceRefusal : List (Record Global) → Form → List ℕ → Refusal → Type 0
 IsPlaceRefusal before f block Full = (t : ℕ) × NeedsTimestamp before f block t × (length f.definition.fields ≡ 255)
 IsPlaceRefusal before f block Time = NeedsTimestamp before f block 0xFFFFFFFF × (length f.definition.fields < 255)
 IsPlaceRefusal before f block Described =
-    (needed : Form) × IsNeeded before f block needed × (dev_defs f.definition.dev ≡ [] → ⊥)
+    (needed : Form) × IsNeeded before f block needed × (WouldSaySame before needed → ⊥)
     × ((local : ℕ) (p : Defined Global) → CanName before block local → SaysSame before local needed p → ⊥)
 IsPlaceRefusal before f block TooLong = (after : List (Record Global)) × IsPut before after f block × (2 ^ 32 ≤ data_length after)
 IsPlaceRefusal before f block _ = ⊥

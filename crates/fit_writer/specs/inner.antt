@@ -5,3 +5,5 @@ pub mod OpenFiles
 pub mod Places
 pub mod Spelled
 pub mod Puts
+pub mod Runs
+pub mod Kept

@@ -6,12 +6,11 @@ ghost use Rattle.std.specs.List.{AllByRecursion};
 ghost use Rattle.fit_base.specs.Numbers.{little_bytes};
 ghost use Rattle.fit_sum.specs.Checksum.{checksum};
 ghost use Rattle.fit_frame.specs.Header.{FormFits, HeaderFits, header_bytes};
-ghost use Rattle.fit_record.specs.Environment.{empty_environment};
 ghost use Rattle.fit_record.specs.Files.{IsWellFormed, chain_bytes, chain_limit};
-ghost use Rattle.fit_record.specs.Records.{AllFit, records_bytes};
 ghost use Rattle.fit_encode.specs.Encoding.{file_of};
 ghost use Rattle.fit_encode.specs.Faults.{StopsAt};
 ghost use Rattle.fit_writer.specs.inner.Files.{IsNextFile};
+ghost use Rattle.fit_writer.specs.inner.OpenFiles.{AreData};
 
 use arrayvec::ArrayVec;
 use fit_encode::{Sink, put_all};
@@ -148,8 +147,7 @@ impl Chain {
         requires room { length self.old < chain_limit }
         requires fits { HeaderFits header.now (length section.now) }
         requires head { head.now ≡ header_bytes header.now (length section.now) }
-        requires spelled { section.now ≡ records_bytes empty_environment (reverse stream.now) }
-        requires records { AllFit empty_environment (reverse stream.now) }
+        requires data { AreData section.now stream.now }
         ensures ok { OnOk result
             (self.new ≡ self.old ++ file_of header.now (reverse stream.now) ∷ []) }
         ensures err { OnErr result (self.new ≡ self.old) }
@@ -170,9 +168,7 @@ impl Chain {
         requires room { length self.old < chain_limit }
         requires form { FormFits header.now }
         requires zero { header.now.sum ≡ HeaderSum.Zero }
-        requires short { length section.now < 2 ^ 32 }
-        requires spelled { section.now ≡ records_bytes empty_environment (reverse stream.now) }
-        requires records { AllFit empty_environment (reverse stream.now) }
+        requires data { AreData section.now stream.now }
         ensures ok { OnOk result (self.new ≡ self.old
             ++ file_of (record header.now { sum = HeaderSum.True }) (reverse stream.now) ∷ []) }
         ensures err { OnErr result (self.new ≡ self.old) }
@@ -193,9 +189,7 @@ impl Chain {
     ) -> Result<(), AllocError>
         requires room { length self.old < chain_limit }
         requires form { FormFits header.now }
-        requires short { length section.now < 2 ^ 32 }
-        requires spelled { section.now ≡ records_bytes empty_environment (reverse stream.now) }
-        requires records { AllFit empty_environment (reverse stream.now) }
+        requires data { AreData section.now stream.now }
         ensures ok { OnOk result (IsNextFile self.old self.new header.now stream.now) }
         ensures err { OnErr result (self.new ≡ self.old) }
     {

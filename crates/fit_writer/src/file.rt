@@ -12,7 +12,7 @@ ghost use Rattle.fit_record.specs.Records.{DataHeaderFits, DefinitionFits, Fits,
 ghost use Rattle.fit_profile.specs.Looks.{known};
 ghost use Rattle.fit_from_messages.specs.Parts.{slot_stands};
 ghost use Rattle.fit_writer.specs.Reading.{values_by};
-ghost use Rattle.fit_writer.specs.Written.{SaysSame, with_local};
+ghost use Rattle.fit_writer.specs.Written.{SaysSame, WouldSaySame, with_local};
 ghost use Rattle.fit_writer.specs.inner.Files.{IsNextFile};
 ghost use Rattle.fit_writer.specs.inner.OpenFiles.{IsGoodOpenFile, IsHalfPut, IsUnput, current_of, current_with};
 ghost use Rattle.fit_writer.specs.inner.Places.{IsLone, form_of};
@@ -173,8 +173,7 @@ impl OpenFile {
         Ok(())
     }
 
-    /// Puts a message without developer fields with its definition message before it. Where memory is refused, the definition message may
-    /// have been put.
+    /// Puts a message with its definition message before it. Where memory is refused, the definition message may have been put.
     pub(crate) fn put_both(
         &mut self,
         alloc: Global,
@@ -184,7 +183,7 @@ impl OpenFile {
     ) -> Result<(), Refusal>
         requires good { IsGoodOpenFile self.old }
         requires lone { IsLone lone.now }
-        requires plain { lone.now.codes ≡ [] }
+        requires same { WouldSaySame self.old.stream (form_of lone.now) }
         requires front { DataHeaderFits front.local front.offset }
         requires stand { list_all (slot_stands block.now) lone.now.slots ≡ true }
         ensures ok { OnOk result (current_of self.new ≡ current_with self.old

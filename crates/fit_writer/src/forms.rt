@@ -8,36 +8,28 @@ use fit_from_messages::{LoneDefinition, Slot};
 use fit_record::{DevDef, FieldDef, MessageDef};
 use std::alloc::{AllocError, Global};
 
-/// The fields with one for a timestamp before them.
-fn with_timestamp(alloc: Global, fields: &[FieldDef]) -> Result<Entries<FieldDef>, AllocError>
-    ensures { IfOk result (λ all. all
-        ≡ record { number = 253; size = 4; code = 0x86 } ∷ fields.now) }
-{
-    let mut all = Entries::new(alloc);
-    all.push(FieldDef {
-        number: 253,
-        size: 4,
-        code: 0x86,
-    })?;
-    for field in fields {
-        all.push(*field)?;
-    }
-    Ok(all)
-}
+/// A timestamp.
+const TIMESTAMP: FieldDef = FieldDef {
+    number: 253,
+    size: 4,
+    code: 0x86,
+};
 
-/// Where items are, with those of a timestamp before them: where a block has the time of its header.
-fn with_header_time(alloc: Global, slots: &[Slot]) -> Result<Entries<Slot>, AllocError>
-    ensures { IfOk result (λ all. all
-        ≡ record { place = 32; width = 4; count = 1 } ∷ slots.now) }
+/// Where a block has the time of its header.
+const HEADER_TIME: Slot = Slot {
+    place: 32,
+    width: 4,
+    count: 1,
+};
+
+/// Elements with one before them.
+fn with_first<T: Copy>(alloc: Global, first: T, others: &[T]) -> Result<Entries<T>, AllocError>
+    ensures { IfOk result (λ all. all ≡ first ∷ others.now) }
 {
     let mut all = Entries::new(alloc);
-    all.push(Slot {
-        place: 32,
-        width: 4,
-        count: 1,
-    })?;
-    for slot in slots {
-        all.push(*slot)?;
+    all.push(first)?;
+    for other in others {
+        all.push(*other)?;
     }
     Ok(all)
 }
@@ -100,10 +92,10 @@ pub(crate) fn dated<'a>(
     ensures form { IfOk result (λ d. form_of d ≡ saying.dated (form_of lone.now)) }
     ensures lone { IfOk result IsLone }
 {
-    let fields = with_timestamp(alloc, lone.definition.fields.as_slice())?;
+    let fields = with_first(alloc, TIMESTAMP, lone.definition.fields.as_slice())?;
     let definition = with_fields(alloc, &lone.definition, lone.definition.local, fields)?;
     let codes = Entries::from_slice(alloc, lone.codes.as_slice())?;
-    let slots = with_header_time(alloc, lone.slots.as_slice())?;
+    let slots = with_first(alloc, HEADER_TIME, lone.slots.as_slice())?;
     Ok(LoneDefinition {
         definition,
         codes,

@@ -3,15 +3,18 @@
 
 mod chain;
 mod data;
+mod described;
 mod file;
 mod forms;
+mod kept;
 pub mod laws;
 mod names;
 mod places;
 mod put;
 mod refusal;
+mod run;
 mod times;
 mod writer;
 
-pub use refusal::{FinishFault, Refusal};
+pub use refusal::{FinishFault, Refusal, RunRefusal};
 pub use writer::MessageWriter;

@@ -5,23 +5,10 @@ ghost use Rattle.fit_profile.specs.Described.{namings_at};
 ghost use Rattle.fit_from_messages.specs.Parts as parts;
 ghost use Rattle.fit_from_messages.specs.Parts.{entries_of, entry_stands, number_read};
 ghost use Rattle.fit_writer.specs.Reading.{entry_naming, text_in};
-ghost use Rattle.fit_writer.specs.inner.Forms.{HasNaming};
+ghost use Rattle.fit_writer.specs.inner.Forms.{AreTexts, HasNaming};
 
-use fit_from_messages::{short_at, split_entry};
+use fit_from_messages::{short_at, split_entry, text_length};
 use fit_profile::Stream;
-
-/// How many bytes a text has before its first zero.
-fn text_length(bytes: &[u8]) -> usize
-    ensures length { result ≡ parts.text_length bytes.now }
-    ensures within { result ≤ length bytes.now }
-{
-    for (place, byte) in bytes.iter().enumerate() {
-        if *byte == 0 {
-            return place;
-        }
-    }
-    bytes.len()
-}
 
 /// The bytes of an entry from a place on.
 fn from_place(place: usize, entry: &[u8]) -> &[u8]
@@ -48,6 +35,17 @@ fn is_text(known: Option<&str>, place: usize, entry: &[u8]) -> bool
     }
 }
 
+/// Whether a name and a unit are those that an entry says.
+pub(crate) fn are_texts(name: Option<&str>, unit: Option<&str>, entry: &[u8]) -> bool
+    requires { 32 ≤ length entry.now }
+    ensures yes { result ≡ true → AreTexts (option_map (λ s. s.now) name.entry)
+        (option_map (λ s. s.now) unit.entry) (entry_naming entry.now) }
+    ensures no { result ≡ false → AreTexts (option_map (λ s. s.now) name.entry)
+        (option_map (λ s. s.now) unit.entry) (entry_naming entry.now) → ⊥ }
+{
+    is_text(name, 32, entry) && is_text(unit, short_at(2, entry) as usize, entry)
+}
+
 /// Whether a developer field of a local message type has the name and the unit that an entry says.
 fn is_named(stream: &Stream, local: u8, place: u8, entry: &[u8]) -> bool
     requires { 32 ≤ length entry.now }
@@ -57,7 +55,7 @@ fn is_named(stream: &Stream, local: u8, place: u8, entry: &[u8]) -> bool
         (entry_naming entry.now) → ⊥ }
 {
     let (name, unit) = stream.dev_texts(local, place);
-    is_text(name, 32, entry) && is_text(unit, short_at(2, entry) as usize, entry)
+    are_texts(name, unit, entry)
 }
 
 /// Whether the developer fields of a local message type have the names and units that entries say, that many.

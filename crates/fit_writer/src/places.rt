@@ -53,7 +53,7 @@ impl Turns {
 }
 
 /// The developer fields of a definition, none where it has no such part.
-fn devs(definition: &MessageDef) -> &[DevDef]
+pub(crate) fn devs(definition: &MessageDef) -> &[DevDef]
     ensures { result.now ≡ dev_defs definition.now.dev }
 {
     match &definition.dev {

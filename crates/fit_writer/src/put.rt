@@ -1,7 +1,6 @@
 //! In which form a message is put.
 ghost use Rattle.std.specs.Prelude.{◌≡◌, ◌<◌, ◌≤◌, ◌∷◌, ℕ, IfErr, IfOk, IfSome, IsNone, None, OnErr, OnOk, Some, length, true};
 ghost use Rattle.std.specs.List.{list_all};
-ghost use Rattle.fit_record.specs.Environment.{dev_defs};
 ghost use Rattle.fit_from_messages.specs.Alone.{why_no_message_at};
 ghost use Rattle.fit_from_messages.specs.Parts as parts;
 ghost use Rattle.fit_from_messages.specs.Parts.{slot_stands};
@@ -11,6 +10,7 @@ ghost use Rattle.fit_writer.specs.inner.Places.{IsLone, form_of};
 ghost use Rattle.fit_writer.specs.inner.Puts.{IsChosen, IsHalfPutInto, IsKeptOffset, IsPutInto, IsToldIn, IsUnchosen, IsRefusedPut, IsUnplaced, limit_of};
 
 use crate::Refusal;
+use crate::described::would_say_same;
 use crate::file::OpenFile;
 use crate::forms::dated;
 use crate::places::{find_same, free_place};
@@ -100,7 +100,7 @@ fn put_needed(
     match find_same(&file.stream, lone, limit) {
         Some(local) => file.put_known(MessageFront { local, offset }, lone, block),
         None => {
-            if !lone.codes.is_empty() {
+            if !would_say_same(&file.stream, lone) {
                 return Err(Refusal::Described);
             }
             let own = lone.definition.local;

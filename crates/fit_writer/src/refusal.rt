@@ -46,6 +46,17 @@ impl From<AllocError> for Refusal {
     }
 }
 
+/// Why a run of messages' blocks stopped before its end.
+#[derive(Clone, Copy, Debug, PartialEq, Eq, Error)]
+#[error("message {count}, at {place}: {refusal}")]
+pub struct RunRefusal {
+    /// How many messages were put.
+    pub count: u64,
+    /// Where the block begins that wasn't.
+    pub place: u64,
+    pub refusal: Refusal,
+}
+
 /// Why a chain isn't written.
 #[derive(Clone, Copy, Debug, PartialEq, Eq, Error)]
 pub enum FinishFault {

@@ -1,16 +1,18 @@
 //! A writer of messages.
-ghost use Rattle.std.specs.Prelude.{◌≡◌, ◌↔◌, ◌<◌, IfErr, IsTrue, OnErr, OnOk};
+ghost use Rattle.std.specs.Prelude.{◌≡◌, ◌↔◌, ◌<◌, IfErr, IfOk, IsTrue, OnErr, OnOk};
 ghost use Rattle.fit_decode.specs.Reads.{channel};
 ghost use Rattle.fit_record.specs.Files.{chain_limit};
 ghost use Rattle.fit_from_messages.specs.Parts.{definition_in, header_in};
 ghost use Rattle.fit_writer.specs.Reading.{form_in};
 ghost use Rattle.fit_writer.specs.Written.{BeginsFile, PutsDefinition, EndsFile, IsDefinitionRefusal, IsHeaderRefusal, IsMessageRefusal, KeepsAll, PutsMessage, file_count, nothing_written};
+ghost use Rattle.fit_writer.specs.Runs.{PutsMessages, StopsRun};
 ghost use Rattle.fit_writer.specs.Finished.{IsFinished, IsNotFinished};
 
 use crate::chain::Chain;
 use crate::file::OpenFile;
+use crate::kept::{Kept, barred};
 use crate::put::put_message;
-use crate::{FinishFault, Refusal};
+use crate::{FinishFault, Refusal, RunRefusal};
 use fit_encode::Sink;
 use fit_from_messages::{Misfit, lone_definition, lone_header};
 use std::alloc::{AllocError, Global};
@@ -28,6 +30,7 @@ pub struct MessageWriter {
     is_open: bool,
     /// Where none has begun, what is left of the last one.
     file: OpenFile,
+    kept: Kept,
     alloc: Global,
 }
 
@@ -52,6 +55,7 @@ impl MessageWriter {
             files: Chain::new(alloc),
             is_open: false,
             file: OpenFile::new(alloc),
+            kept: Kept::new(alloc),
             alloc,
         }
     }
@@ -95,7 +99,8 @@ impl MessageWriter {
     ///
     /// It is refused where a block can't stand by itself, which is a reason of `from_messages`; `Full` and `Time` where the message needs
     /// a timestamp that it can't have; `Described` where no definition with its developer fields is there that gives them these base types,
-    /// names and units: put one first; `TooLong` where the file would have more data than a file may have.
+    /// names and units, nor would one that came now: put messages first that describe them; `TooLong` where the file would have more data
+    /// than a file may have.
     pub fn put_message(&mut self, definition: &[u8], block: &[u8]) -> Result<(), Refusal>
         // A reader is told what the block says, after all that it is told before.
         ensures written { OnOk result (PutsMessage self.old self.new
@@ -114,6 +119,22 @@ impl MessageWriter {
             Err(Misfit::Block(reason)) => Err(Refusal::Block(reason)),
             Err(Misfit::NoMemory) => Err(Refusal::NoMemory),
         }
+    }
+
+    /// Puts the messages whose blocks stand one after another, by the block of their definition, as `put_message` does one after another. It
+    /// stops at the first that is refused. Returns how many were put.
+    pub fn put_messages(&mut self, definition: &[u8], blocks: &[u8]) -> Result<u64, RunRefusal>
+        ensures written { IfOk result
+            (PutsMessages self.old self.new definition.now blocks.now) }
+        // Messages were put up to the one that is refused, and its refusal is that of `put_message`.
+        ensures stopped { IfErr result
+            (StopsRun self.old self.new definition.now blocks.now) }
+    {
+        if !self.is_open {
+            return Err(barred(Refusal::NoFile));
+        }
+        self.kept
+            .put_run(self.alloc, &mut self.file, definition, blocks)
     }
 
     /// Ends the file that has begun, and writes the chain. After an error nothing is lost: it may be called again, also with another sink.

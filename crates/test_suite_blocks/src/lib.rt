@@ -6,6 +6,10 @@ mod asserts;
 #[cfg(test)]
 mod back;
 #[cfg(test)]
+mod put;
+#[cfg(test)]
 mod put_alone;
+#[cfg(test)]
+mod put_described;
 #[cfg(test)]
 mod refused;

@@ -2,24 +2,22 @@
 //! header, a definition and a message of 1000000031, a definition and a message of 1000000034 by its time offset, and the end.
 use crate::asserts::{equal, equal_at};
 use crate::back::blocks_of;
+use crate::put::{between, first_block};
 use fit_encode::CutSink;
 use fit_from_messages::BlockReason;
 use fit_writer::{FinishFault, MessageWriter, Refusal};
 use std::alloc::Global;
 use std::process::Abort;
-use test_known::BOTH_ORDERS;
+use test_known::{BOTH_ORDERS, DEVELOPER_FIELD};
 
 /// The second message by itself: a timestamp comes before its other fields, with the highest byte first as they have it.
 const SECOND_ALONE: [u8; 41] =
     *b"\x0E\x20\0\0\x19\0\0\0.FIT\x5D\xE3\x41\0\x01\0\x14\x03\xFD\x04\x86\x02\x02\x84\x08\x03\x0D\
     \x01\x3B\x9A\xCA\x22\x09\xC4\x64\0\x10\xD7\x19";
 
-/// A part of some blocks, and all of them where they end before it.
-fn between(blocks: &[u8], from: usize, to: usize) -> &[u8] {
-    match blocks.get(from..to) {
-        Some(part) => part,
-        None => blocks,
-    }
+/// Puts the first message of some blocks like those of `BOTH_ORDERS`.
+fn put_first(writer: &mut MessageWriter, blocks: &[u8]) -> Result<(), Refusal> {
+    writer.put_message(between(blocks, 32, 192), between(blocks, 192, 248))
 }
 
 /// Puts the second message of some blocks like those of `BOTH_ORDERS`.
@@ -53,13 +51,63 @@ fn alone_it_gets_a_timestamp(rt: HostRuntime) {
 fn after_the_other_it_keeps_its_offset(rt: HostRuntime) {
     let blocks = blocks_of(&rt, rt.alloc(), &BOTH_ORDERS);
     let mut writer = begun(&rt, rt.alloc(), blocks.as_slice());
-    let first = writer.put_message(
-        between(blocks.as_slice(), 32, 192),
-        between(blocks.as_slice(), 192, 248),
-    );
-    equal(&rt, &first, &Ok(()));
+    equal(&rt, &put_first(&mut writer, blocks.as_slice()), &Ok(()));
     equal(&rt, &put_second(&mut writer, blocks.as_slice()), &Ok(()));
     writes(&rt, &mut writer, &BOTH_ORDERS);
+}
+
+#[test]
+fn a_definition_that_was_put_is_taken(rt: HostRuntime) {
+    let blocks = blocks_of(&rt, rt.alloc(), &BOTH_ORDERS);
+    let mut writer = begun(&rt, rt.alloc(), blocks.as_slice());
+    let defined = writer.put_definition(between(blocks.as_slice(), 32, 192));
+    equal(&rt, &defined, &Ok(()));
+    equal(&rt, &put_first(&mut writer, blocks.as_slice()), &Ok(()));
+    equal(&rt, &put_second(&mut writer, blocks.as_slice()), &Ok(()));
+    writes(&rt, &mut writer, &BOTH_ORDERS);
+}
+
+/// One of some blocks, by its number from 0.
+fn part(blocks: &[u8], number: usize) -> &[u8] {
+    let mut rest = blocks;
+    for _ in 0..number {
+        match first_block(rest) {
+            Some((_, after)) => rest = after,
+            None => break,
+        }
+    }
+    match first_block(rest) {
+        Some((block, _)) => block,
+        None => rest,
+    }
+}
+
+/// Puts a message with a developer field, which is refused because no description says what the field is.
+fn refused_undescribed(rt: &impl Abort, writer: &mut MessageWriter, blocks: &[u8]) {
+    let put = writer.put_message(part(blocks, 6), part(blocks, 7));
+    equal(rt, &put, &Err(Refusal::Described));
+}
+
+/// A definition of a developer field, its description, and with both a definition and a message.
+const DESCRIBED_LATER: [u8; 64] = *b"\x0E \0\x000\0\0\0.FIT\x9F\x91a\0\0\x14\0\0\x01\x05\x02\0\
+    @\0\0\xCE\0\x04\0\x01\x02\x01\x01\x02\x02\x01\x02\x03\x03\x07\0\0\x05\x84mo\0\
+    b\0\0\x14\0\0\x01\x05\x02\0\x024\x12\x60\xEF";
+
+#[test]
+fn developer_fields_want_their_description(rt: HostRuntime) {
+    let owned = blocks_of(&rt, rt.alloc(), &DEVELOPER_FIELD);
+    let blocks = owned.as_slice();
+    let mut writer = begun(&rt, rt.alloc(), blocks);
+    refused_undescribed(&rt, &mut writer, blocks);
+    // Without a description its definition says no name.
+    equal(&rt, &writer.put_definition(part(blocks, 6)), &Ok(()));
+    refused_undescribed(&rt, &mut writer, blocks);
+    let put = writer.put_message(part(blocks, 1), part(blocks, 4));
+    equal(&rt, &put, &Ok(()));
+    // Now a definition that comes with the message says it.
+    let put = writer.put_message(part(blocks, 6), part(blocks, 7));
+    equal(&rt, &put, &Ok(()));
+    writes(&rt, &mut writer, &DESCRIBED_LATER);
 }
 
 #[test]

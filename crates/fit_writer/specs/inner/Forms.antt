@@ -22,7 +22,11 @@ FieldsFit [] slots = Unit {0}
 FieldsFit (f ∷ fields) (s ∷ slots) = (s.width ≡ item_width f.code f.size) × (s.width * s.count ≡ f.size) × FieldsFit fields slots
 FieldsFit (f ∷ fields) [] = ⊥
 
+-- A name and a unit are those of a naming.
+abbrev pub AreTexts : Option (List ℕ) → Option (List ℕ) → Naming → Type 0
+AreTexts name unit n = (name ≡ n.name) × (unit ≡ n.unit)
+
 -- The naming at a place has this name and this unit; where none is there, neither is.
 abbrev pub HasNaming : List Naming → ℕ → Naming → Type 0
 HasNaming namings place n =
-    (option_and_then (λ t. t.name) (slice_get namings place) ≡ n.name) × (option_and_then (λ t. t.unit) (slice_get namings place) ≡ n.unit)
+    AreTexts (option_and_then (λ t. t.name) (slice_get namings place)) (option_and_then (λ t. t.unit) (slice_get namings place)) n

@@ -1,15 +1,14 @@
 -- Files that have begun, as the code keeps them. No public contract names these.
-use Rattle.std.specs.Prelude.{◌≡◌, ◌⊎◌, ◌∷◌, ◌+◌, ◌<◌, ◌≤◌, ◌^◌, ℕ, Bool, true, if◌then◌else◌, List, length, reverse, Some, None}
+use Rattle.std.specs.Prelude.{◌≡◌, ◌⊎◌, ◌+◌, ◌<◌, ◌≤◌, ◌^◌, ℕ, Bool, true, if◌then◌else◌, List, length, reverse, Some, None}
 use Rattle.std.specs.Global.{Global}
 use Rattle.fit_frame.specs.Header.{FormFits}
 use Rattle.fit_record.specs.declared.file.FitFile.{FitFile}
 use Rattle.fit_record.specs.declared.definition.MessageDef.{MessageDef}
 use Rattle.fit_record.specs.declared.message.Record.{Record}
-use Rattle.fit_record.specs.declared.message.Record.TheVariants.{Define}
 use Rattle.fit_record.specs.Environment.{empty_environment}
 use Rattle.fit_record.specs.Files.{chain_limit}
 use Rattle.fit_record.specs.Records.{AllFit, records_bytes}
-use Rattle.fit_writer.specs.Written.{Current, Writing, data_length, with_local}
+use Rattle.fit_writer.specs.Written.{Current, PutsDefining, Writing, data_length}
 use Rattle.fit_writer.specs.declared.file.OpenFile.{OpenFile}
 use Rattle.fit_writer.specs.declared.refusal.Refusal.{Refusal}
 use Rattle.fit_writer.specs.declared.refusal.Refusal.TheVariants.{NoMemory, TooLong}
@@ -45,8 +44,11 @@ IsUnput after TooLong = 2 ^ 32 ≤ data_length after
 IsUnput after NoMemory = Unit {0}
 IsUnput after _ = ⊥
 
--- Nothing has changed; or memory was refused after this definition message was put, for some local message type.
+-- Nothing has changed; or memory was refused where there were records that may be.
+abbrev pub IsHalf : OpenFile → OpenFile → (List (Record Global) → Type 0) → Refusal → Type 0
+IsHalf old new may NoMemory = (current_of new ≡ current_of old) ⊎ ((after : List (Record Global)) × may after × (current_of new ≡ current_with old after))
+IsHalf old new may _ = current_of new ≡ current_of old
+
+-- those with this definition message, for some local message type
 abbrev pub IsHalfPut : OpenFile → OpenFile → MessageDef Global → Refusal → Type 0
-IsHalfPut old new d NoMemory =
-    (current_of new ≡ current_of old) ⊎ ((local : ℕ) × (current_of new ≡ current_with old (Define (with_local d local) ∷ old.stream)))
-IsHalfPut old new d _ = current_of new ≡ current_of old
+IsHalfPut old new d = IsHalf old new (λ after. PutsDefining old.stream after d)

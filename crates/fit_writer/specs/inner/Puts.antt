@@ -1,5 +1,5 @@
 -- In which form a message is put. No public contract names these.
-use Rattle.std.specs.Prelude.{◌≡◌, ◌⊎◌, ◌<◌, ◌≤◌, ◌^◌, ℕ, Bool, false, is_some, if◌then◌else◌, List, [], ◌∷◌, length, Option, Some, None, IfSome}
+use Rattle.std.specs.Prelude.{◌≡◌, ◌⊎◌, ◌<◌, ◌≤◌, ◌^◌, ℕ, Bool, false, is_some, if◌then◌else◌, List, ◌∷◌, length, Option, Some, None, IfSome}
 use Rattle.std.specs.Global.{Global}
 use Rattle.fit_record.specs.declared.definition.MessageDef.{MessageDef}
 use Rattle.fit_record.specs.declared.environment.Defined.{Defined}
@@ -9,15 +9,14 @@ use Rattle.fit_record.specs.declared.message.Values.{Values}
 use Rattle.fit_record.specs.Faults.{or_else}
 use Rattle.fit_profile.specs.Times.{header_time, previous_time}
 use Rattle.fit_writer.specs.Reading.{Form, Reading, dated, header_time_in, fields_time, reading_after, reading_by, values_by}
-use Rattle.fit_profile.specs.Looks.{known}
-use Rattle.fit_record.specs.Environment.{defined_at, dev_defs}
-use Rattle.fit_writer.specs.Written.{IsPlaceRefusal, IsPut, KeepsOffset, PutsHalf, SaysSame, data_length, with_definition, with_local}
+use Rattle.fit_writer.specs.Written.{IsPlaceRefusal, IsPlaced, IsPut, KeepsOffset, PutsHalf, SaysSame, WouldSaySame, data_length}
+use Rattle.fit_writer.specs.Written.{with_definition}
 use Rattle.fit_from_messages.specs.Parts.{offset_in}
 use Rattle.fit_from_messages.specs.declared.fault.BlockReason.{BlockReason}
 use Rattle.fit_writer.specs.declared.file.OpenFile.{OpenFile}
 use Rattle.fit_writer.specs.declared.refusal.Refusal.{Refusal}
 use Rattle.fit_writer.specs.declared.refusal.Refusal.TheVariants.{Described, Full, Message, NoMemory, Time, TooLong}
-use Rattle.fit_writer.specs.inner.OpenFiles.{current_of, current_with}
+use Rattle.fit_writer.specs.inner.OpenFiles.{IsHalf, current_of, current_with}
 
 -- the message has no time but that of its header, which isn't kept
 pub record LosesTime (f : Form) (block : List ℕ) (is_kept : Bool) (t : ℕ) : Type 0 where
@@ -47,14 +46,8 @@ abbrev pub limit_of : Option ℕ → ℕ
 limit_of offset = if is_some offset then 4 else 16
 
 -- The local message type of a message of this form below a limit, and its definition message, if need be.
-pub record IsSeated (before : List (Record Global)) (f : Form) (limit : ℕ) (defined : Option (MessageDef Global)) (local : ℕ) : Type 0 where
-  pub own : (p : Defined Global) → f.definition.local < limit → SaysSame before f.definition.local f p → local ≡ f.definition.local
-  pub fresh : (d : MessageDef Global) → defined ≡ Some d → (k : ℕ) (p : Defined Global) → k < limit → SaysSame before k f p → ⊥
-  pub defines : (d : MessageDef Global) → defined ≡ Some d → (d ≡ with_local f.definition local) × (dev_defs d.dev ≡ [])
-  pub own_free : (d : MessageDef Global) → defined ≡ Some d → f.definition.local < limit → defined_at (known before) f.definition.local ≡ None
-      → local ≡ f.definition.local
-  pub free : (d : MessageDef Global) → defined ≡ Some d → (k : ℕ) → k < limit → defined_at (known before) k ≡ None
-      → defined_at (known before) local ≡ None
+abbrev pub IsSeated : List (Record Global) → Form → ℕ → Option (MessageDef Global) → ℕ → Type 0
+IsSeated before f limit defined local = IsPlaced before f (λ k. k < limit) defined local
 
 -- It was put, if need be with its definition message.
 pub record IsTold (before : List (Record Global)) (f : Form) (block : List ℕ) (offset : Option ℕ) (after : List (Record Global)) : Type 0 where
@@ -67,7 +60,7 @@ pub record IsTold (before : List (Record Global)) (f : Form) (block : List ℕ) 
 
 abbrev pub IsUnplaced : List (Record Global) → Form → List ℕ → Option ℕ → Refusal → Type 0
 IsUnplaced before f block offset Described =
-    (f.codes ≡ [] → ⊥) × ((local : ℕ) (p : Defined Global) → local < limit_of offset → SaysSame before local f p → ⊥)
+    (WouldSaySame before f → ⊥) × ((local : ℕ) (p : Defined Global) → local < limit_of offset → SaysSame before local f p → ⊥)
 IsUnplaced before f block offset TooLong = (after : List (Record Global)) × IsTold before f block offset after × (2 ^ 32 ≤ data_length after)
 IsUnplaced before f block offset NoMemory = Unit {0}
 IsUnplaced before f block offset _ = ⊥
@@ -80,9 +73,7 @@ IsToldIn old new f block offset =
 
 -- Of the message nothing was put, or where memory was refused the definition message alone that it needs.
 abbrev pub IsHalfPutInto : OpenFile → OpenFile → Form → List ℕ → Refusal → Type 0
-IsHalfPutInto old new f block NoMemory =
-    (current_of new ≡ current_of old) ⊎ ((after : List (Record Global)) × PutsHalf old.stream after f block × (current_of new ≡ current_with old after))
-IsHalfPutInto old new f block _ = current_of new ≡ current_of old
+IsHalfPutInto old new f block = IsHalf old new (λ after. PutsHalf old.stream after f block)
 
 abbrev pub IsPutInto : OpenFile → OpenFile → Form → List ℕ → Type 0
 IsPutInto old new f block = (after : List (Record Global)) × IsPut old.stream after f block × (current_of new ≡ current_with old after)

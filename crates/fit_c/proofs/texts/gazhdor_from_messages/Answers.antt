@@ -1,4 +1,4 @@
-use Rattle.fit_c.proofs.Common.{refl, ap, subst, sym, ◌∙◌, Channel, IsTextUnlessNoMemory}
+use Rattle.fit_c.proofs.Common.{ap, subst, sym, ◌∙◌, Channel, IsTextUnlessNoMemory}
 use Rattle.fit_c.proofs.Handed.{blocks_back, blocks_good}
 use Rattle.fit_c.proofs.texts.gazhdor_from_messages.Goals as goal
 

@@ -4,8 +4,8 @@ use Rattle.std.specs.Prelude.{Option, None, IfSome, is_some}
 use Rattle.fit_from_messages.specs.Alone.{why_no_message_at}
 use Rattle.fit_from_messages.specs.declared.alone.LoneDefinition.{LoneDefinition}
 use Rattle.fit_writer.proofs.Ends.{err_into, err_refused, ok_put}
-use Rattle.fit_writer.proofs.Puts.{no_codes, refused_form}
-use Rattle.fit_writer.specs.inner.Places.{IsLone, form_of}
+use Rattle.fit_writer.proofs.Puts.{refused_form}
+use Rattle.fit_writer.specs.inner.Places.{form_of}
 use Rattle.fit_writer.specs.inner.Puts.{IsChosen, IsUnchosen}
 use Rattle.fit_writer.proofs.put.put_message.Goals as goal
 use Rattle.fit_writer.proofs.put.put_message.Goals.{In-None, In-Some-2, In_default}
@@ -46,8 +46,7 @@ returns-in-None-clause-refused c =
     let chosen = own (goal.at.returns-in-None-clause-refused c).In-None in
     err_refused c.args.file.now.stream f f c.args.block.now c.kept_offset-offset.result (why_no_message_at c.args.block.now c.args.lone.now.slots)
     c.put_needed.result (no_reason (goal.at.returns-in-None-clause-refused c).In_default)
-    (no_codes f f c.args.block.now (is_some c.kept_offset-offset.result) chosen c.requires.lone.many) c.kept_offset-offset.ensures.kept chosen
-    c.put_needed.ensures.refused
+    c.kept_offset-offset.ensures.kept chosen c.put_needed.ensures.refused
 
 -- or with a timestamp
 stamped : (c : In-Some-2) → IsChosen (form_of c.args.lone.now) c.args.block.now (is_some c.kept_offset-offset.result) (form_of c.in-Some-2.dated)
@@ -56,9 +55,6 @@ stamped c =
     subst (λ (b : Bool). IsChosen f c.args.block.now b (form_of c.in-Some-2.dated)) c.is_some.ensures
     (subst (λ (o : Option LoneDefinition). IfSome o (λ d. IsChosen f c.args.block.now c.is_some.result (form_of d))) c.in-Some-2.is
     c.in_ok-needed.ensures.dated)
-
-lone : (c : In-Some-2) → IsLone c.in-Some-2.dated
-lone c = subst (λ (o : Option LoneDefinition). IfSome o IsLone) c.in-Some-2.is c.in_ok-needed.ensures.lone
 
 pub returns-in-Some-2-clause-ok : goal.returns-in-Some-2-clause-ok
 returns-in-Some-2-clause-ok c =
@@ -78,5 +74,4 @@ returns-in-Some-2-clause-refused c =
     err_refused c.args.file.now.stream (form_of c.args.lone.now) (form_of c.in-Some-2.dated) c.args.block.now c.kept_offset-offset.result
     (why_no_message_at c.args.block.now c.args.lone.now.slots) c.put_needed-in-Some-2.result
     (no_reason (goal.at.returns-in-Some-2-clause-refused c).In_default)
-    (no_codes (form_of c.args.lone.now) (form_of c.in-Some-2.dated) c.args.block.now (is_some c.kept_offset-offset.result) (stamped a) (lone a).many)
     c.kept_offset-offset.ensures.kept (stamped a) c.put_needed-in-Some-2.ensures.refused

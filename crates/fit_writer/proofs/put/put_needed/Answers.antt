@@ -1,9 +1,8 @@
 use Rattle.std.proofs.Common.{◌∷◌, refl}
 use Rattle.fit_record.specs.declared.message.Record.TheVariants.{Define, Values as Data}
-use Rattle.fit_record.specs.Environment.{dev_defs}
 use Rattle.fit_writer.proofs.Ends.{err_half, err_unplaced, ok_told}
-use Rattle.fit_writer.proofs.LoneForms.{local_few, no_devs}
-use Rattle.fit_writer.proofs.Puts.{header_fits, is_none, own_found, told_both, told_known, under}
+use Rattle.fit_writer.proofs.LoneForms.{local_few}
+use Rattle.fit_writer.proofs.Puts.{header_fits, own_found, told_both, told_known, under}
 use Rattle.fit_writer.specs.Reading.{values_by}
 use Rattle.fit_writer.specs.Written.{with_local}
 use Rattle.fit_writer.specs.inner.Places.{form_of}
@@ -18,9 +17,6 @@ put_known-requires-clause-front c =
 pub put_both-requires-clause-front : goal.put_both-requires-clause-front
 put_both-requires-clause-front c =
     header_fits c.args.offset c.free_place-local.result c.limit_of-limit.result c.limit_of-limit.ensures c.free_place-local.ensures.within c.requires.offset
-
-pub put_both-requires-clause-plain : goal.put_both-requires-clause-plain
-put_both-requires-clause-plain c = is_none c.args.lone.now.codes c.is_empty.result c.is_empty.ensures c.if-not-is_empty.false
 
 -- what was put by a definition that was there
 known : (c : In-Some) → IsTold c.args.file.now.stream (form_of c.args.lone.now) c.args.block.now c.args.offset
@@ -48,22 +44,20 @@ both : (c : After-free_place-local) → IsTold c.args.file.now.stream (form_of c
     (Data (values_by (form_of c.args.lone.now) c.args.block.now c.free_place-local.result c.args.offset)
     ∷ Define (with_local c.args.lone.now.definition c.free_place-local.result) ∷ c.args.file.now.stream)
 both c =
-    let plain = is_none c.args.lone.now.codes c.is_empty.result c.is_empty.ensures c.if-not-is_empty.false in
     let limit = c.limit_of-limit.ensures in
     let fits = header_fits c.args.offset c.free_place-local.result c.limit_of-limit.result limit c.free_place-local.ensures.within c.requires.offset in
-    told_both c.args.file.now.stream c.free_place-local.result (form_of c.args.lone.now) c.args.block.now c.args.lone.now.dev.now c.args.offset
-    (local_few c.free_place-local.result c.args.offset fits)
-    (no_devs c.args.lone.now.codes (dev_defs c.args.lone.now.definition.dev) c.requires.lone.many plain) plain refl
+    told_both c.args.file.now.stream c.free_place-local.result (form_of c.args.lone.now) c.args.block.now c.args.offset
+    (local_few c.free_place-local.result c.args.offset fits) (c.would_say_same.ensures.yes c.if-not-would_say_same.false)
     (λ k p less same. c.in-None.ensures.none refl k p (under k c.limit_of-limit.result c.args.offset limit less) same)
     (λ less none. c.free_place-local.ensures.own (under c.args.lone.now.definition.local c.limit_of-limit.result c.args.offset limit less) none)
     (λ k less none. c.free_place-local.ensures.free k (under k c.limit_of-limit.result c.args.offset limit less) none)
 
-pub returns-else-not-is_empty-clause-ok : goal.returns-else-not-is_empty-clause-ok
-returns-else-not-is_empty-clause-ok c =
+pub returns-else-not-would_say_same-clause-ok : goal.returns-else-not-would_say_same-clause-ok
+returns-else-not-would_say_same-clause-ok c =
     ok_told c.args.file.now c.put_both.new.self (form_of c.args.lone.now) c.args.block.now c.args.offset _ c.put_both.result
-    (both (goal.at.returns-else-not-is_empty-clause-ok c).After-free_place-local) c.put_both.ensures.ok
+    (both (goal.at.returns-else-not-would_say_same-clause-ok c).After-free_place-local) c.put_both.ensures.ok
 
-pub returns-else-not-is_empty-clause-refused : goal.returns-else-not-is_empty-clause-refused
-returns-else-not-is_empty-clause-refused c =
+pub returns-else-not-would_say_same-clause-refused : goal.returns-else-not-would_say_same-clause-refused
+returns-else-not-would_say_same-clause-refused c =
     err_unplaced c.args.file.now.stream (form_of c.args.lone.now) c.args.block.now c.args.offset _ c.put_both.result
-    (both (goal.at.returns-else-not-is_empty-clause-refused c).After-free_place-local) c.put_both.ensures.refused
+    (both (goal.at.returns-else-not-would_say_same-clause-refused c).After-free_place-local) c.put_both.ensures.refused

@@ -10,5 +10,5 @@ invariant_of-self-2 c =
     let s = c.self.inside in
     rw c.add_from.ensures
     (one_more s.bytes.items _ c.args.head.now c.args.section.now s.count s.files.items c.args.header.now (reverse c.args.stream.now) c.self.invariant
-    (subst (λ (fs : List (FitFile Global)). length fs < chain_limit) (sym c.self.view_is) c.requires.room) c.requires.fits c.requires.head c.requires.spelled
-    c.requires.records c.in_ok-put_whole.ensures.ok)
+    (subst (λ (fs : List (FitFile Global)). length fs < chain_limit) (sym c.self.view_is) c.requires.room) c.requires.fits c.requires.head
+    c.requires.data.data_are c.requires.data.fit c.in_ok-put_whole.ensures.ok)

@@ -26,7 +26,7 @@ is_record c =
     let cut : take c.in_ok-end.end c.spell_message.new.bytes.items ≡ c.split_at.result.0.now = search rules in
     subst (λ (b : List ℕ). IsRecord (known (defines c)) (Data (message c)) b) cut
     (spelled_own c.args.self.now.stream c.args.front.local c.args.lone.now c.args.block.now c.args.front.offset
-    (take c.in_ok-end.end c.spell_message.new.bytes.items) c.requires.lone c.requires.plain
+    (take c.in_ok-end.end c.spell_message.new.bytes.items) c.requires.lone c.requires.same
     (local_few c.args.front.local c.args.front.offset c.requires.front) c.in_ok-end.ensures.message)
 
 pub returns-then-not-has_room-clause-refused : goal.returns-then-not-has_room-clause-refused

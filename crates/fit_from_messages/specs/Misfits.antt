@@ -1,4 +1,4 @@
--- Why a block isn't taken. No public contract names these.
+-- Why a block isn't taken.
 use Rattle.std.specs.Prelude.{◌≡◌, Bool, false, Option, Some}
 use Rattle.fit_from_messages.specs.declared.fault.BlockReason.{BlockReason}
 use Rattle.fit_from_messages.specs.declared.misfit.Misfit.{Misfit}

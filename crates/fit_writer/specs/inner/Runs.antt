@@ -1,0 +1,41 @@
+-- Messages that are put one after another into a file. No public contract names these.
+use Rattle.std.specs.Prelude.{◌≡◌, ◌⊎◌, ◌+◌, ◌≤◌, ℕ, List, [], ◌∷◌, ◌++◌, length}
+use Rattle.fit_from_messages.specs.Alone.{why_no_message_at}
+use Rattle.fit_from_messages.specs.SaysChain.{IsBlock, joined_blocks}
+use Rattle.fit_from_messages.specs.declared.fault.BlockReason.TheVariants.{Cut}
+use Rattle.fit_writer.specs.Reading.{Form}
+use Rattle.fit_writer.specs.declared.file.OpenFile.{OpenFile}
+use Rattle.fit_writer.specs.declared.refusal.Refusal.{Refusal}
+use Rattle.fit_writer.specs.declared.refusal.Refusal.TheVariants.{Message}
+use Rattle.fit_writer.specs.declared.refusal.RunRefusal.{RunRefusal}
+use Rattle.fit_writer.specs.inner.OpenFiles.{current_of}
+use Rattle.fit_writer.specs.inner.Puts.{IsHalfPutInto, IsPutInto, IsRefusedPut}
+
+-- The message of each block was put into the file.
+abbrev pub PutsEachInto : OpenFile → OpenFile → Form → List (List ℕ) → Type 0
+PutsEachInto old new form [] = current_of new ≡ current_of old
+PutsEachInto old new form (block ∷ blocks) =
+    IsBlock block × (between : OpenFile) × IsPutInto old between form block × PutsEachInto between new form blocks
+
+-- Those of that many blocks, up to this place.
+pub record HasRunInto (old new : OpenFile) (form : Form) (bytes : List ℕ) (count : ℕ) (rest : List ℕ) : Type 0 where
+  pub blocks : List (List ℕ)
+  pub are_joined : bytes ≡ joined_blocks blocks ++ rest
+  pub counted : count ≡ length blocks
+  pub few : count + length rest ≤ length bytes
+  pub put : PutsEachInto old new form blocks
+
+-- The bytes, one at least, begin with no block; or the message of the block with which they begin isn't put.
+abbrev pub IsFirstRefused : OpenFile → OpenFile → Form → List ℕ → Refusal → Type 0
+IsFirstRefused old new form rest why =
+    ((rest ≡ [] → ⊥) × ((block more : List ℕ) → rest ≡ block ++ more → IsBlock block → ⊥) × (why ≡ Message Cut) × (current_of new ≡ current_of old))
+    ⊎ ((block : List ℕ) × (more : List ℕ) × IsBlock block × (rest ≡ block ++ more)
+    × IsRefusedPut old.stream form block (why_no_message_at block form.slots) why × IsHalfPutInto old new form block why)
+
+-- Some were put, and the next isn't.
+pub record IsRunStopped (old new : OpenFile) (form : Form) (bytes : List ℕ) (stop : RunRefusal) : Type 0 where
+  pub between : OpenFile
+  pub rest : List ℕ
+  pub run : HasRunInto old between form bytes stop.count rest
+  pub at : length bytes ≡ stop.place + length rest
+  pub next : IsFirstRefused between new form rest stop.refusal
