@@ -26,6 +26,7 @@ export type Reason =
 
 export type BlockReason =
     | "Cut" | "Kind" | "Header" | "Local" | "Architecture" | "Entries" | "Size" | "Offset" | "Undefined" | "Items"
+    | "NoFile" | "Files" | "Full" | "Time" | "Described" | "TooLong"
 
 /** What a call found. As text it is the finding, as `ok` or `refused at byte 3258: FileSum`. */
 export class Answer {
@@ -79,6 +80,19 @@ export class TextRefused extends FitError {}
 export class BlocksRefused extends FitError {
     readonly reason: BlockReason | null
     readonly block: number | null
+}
+/** A value that a field can't have. */
+export class WrongValue extends RangeError {
+    private constructor()
+    readonly field: string
+    readonly value: unknown
+    readonly least: Whole | null
+    readonly most: Whole | null
+}
+/** A message can't be put into a file: its developer field isn't described where it comes from, and is in this file. */
+export class NotDescribed extends Error {
+    private constructor()
+    readonly field: string
 }
 /** The engine gave no more memory, to the module or for what it made. This says nothing of the bytes. */
 export class OutOfMemory extends RangeError {}
@@ -192,6 +206,11 @@ export class Message {
     /** The values by their labels, each of a type that databases and JSON have: times as Dates, places in degrees, words, several numbers as
      * `name_0`, `name_1` and so on, bytes as text. A time that the device didn't know, and a number that isn't finite, are null. */
     ready(): Record<string, Ready>
+    /** The message with other values of some of its fields. A value is what `get` gives; a time may be a Date, a number its word. Throws WrongValue
+     * for what a field can't have, and UnknownName where the message hasn't the field. */
+    replace(values: Values): Message
+    /** The same, and with fields that it hasn't had, which are named as for `Writer.define`. */
+    adding(values: Values): Message
     /** What JSON.stringify takes: bytes as hexadecimal digits, numbers that are no exact ones as text. */
     toJSON(): Record<string, unknown>
 }
@@ -210,6 +229,103 @@ export interface Encoded extends Partial {
 export interface Only {
     /** The messages that are asked for, by name or number. Nothing is made of the others. */
     only?: Kind | Iterable<Kind>
+}
+/** What is changed of a file. Times are cut before they are moved. */
+export interface Changes {
+    /** The fields that are emptied: "position", which is all places, the name of a field, or "MESSAGE.FIELD", each a name or a number. */
+    drop?: string | Iterable<string>
+    /** Seconds by which all times are moved. */
+    shift?: number
+    /** The first second that stays: seconds since 1989-12-31T00:00:00 UTC, a Date, or a text with a zone. */
+    begin?: number | Date | string | null
+    /** The last second that stays. */
+    end?: number | Date | string | null
+}
+export interface Edited {
+    bytes: Uint8Array
+    /** How many values were emptied of each field. */
+    emptied: { message: string; field: string; count: number }[]
+}
+/** What may be written: numbers in the unit of the field, words, texts, bytes, times, several of them, and null for no value. Of a field in semicircles
+ * a number is semicircles. */
+export type Writable = number | bigint | string | Date | Uint8Array | null | readonly (number | bigint | string | null)[] | NumberArray
+type NumberArray = Int8Array | Uint16Array | Int16Array | Uint32Array | Int32Array | Float32Array | Float64Array | BigInt64Array | BigUint64Array
+/** Values by the names of their fields; by a Map also by their numbers and by developer fields. */
+export type Values = Record<string, Writable> | Map<Key | DeveloperField, Writable>
+/** A developer field that a file describes: it names the field in `define`, and is a key of values. */
+export class DeveloperField {
+    private constructor()
+    readonly index: number
+    readonly number: number
+    readonly name: string | null
+    readonly unit: string | null
+    /** The name of its base type. */
+    readonly base: string
+}
+/** A field that is written: its name, its number or a developer field; with its base type, where that isn't as usual, and how many items it has. */
+export type Spec = Key | DeveloperField | readonly [Key | DeveloperField, string] | readonly [Key | DeveloperField, string, number]
+/** What messages with the same fields are written with. */
+export class WrittenMessage {
+    private constructor()
+    /** Writes a message with these values; a field that isn't named has none. */
+    write(values: Values): void
+}
+/** Writes files one after another. A field has as many items, a text as many bytes, as what is written needs. Throws WrongValue for what a field can't
+ * have, and then the writer is as it was. */
+export class Writer {
+    constructor(gazhdor: Gazhdor, options?: WithNames)
+    /** Begins a file, which ends the one before it. The first begins by itself. */
+    file(): void
+    /** What messages of a name or number are written with, which have these fields: names in one text, or a list. */
+    define(message: Kind, fields: string | readonly Spec[] | Iterable<Spec>): WrittenMessage
+    /** Writes a message of a name or number with these fields. */
+    write(message: Kind, values: Values): void
+    /** Describes a developer field, and returns it. It has the next number that is free. `native` says that it stands for a field of a message, as
+     * `["record", 7]`; `application` has 16 bytes. */
+    describe(name: string, options?: {
+        unit?: string; base?: string; index?: number; number?: number; native?: readonly [Kind, number]; application?: Uint8Array
+    }): DeveloperField
+    /** Writes a message that was read, as it is or with other values. It brings its definition and the descriptions of its developer fields along. */
+    copy(message: Message): void
+    /** Ends the files, and returns their bytes. After that the writer can't be used. */
+    finish(): Uint8Array
+    /** Forgets all. After that the writer can't be used. */
+    close(): void
+}
+/** What is said of a field; what is left out or null stays as the library says it. */
+export interface Named {
+    name?: string | null
+    unit?: string | null
+    /** A whole number `raw` stands for `raw / scale - offset` units; floats stand for themselves. */
+    scale?: number | null
+    offset?: number | null
+    /** `date_time` or `local_date_time` of a number that is a time, or a type of words, as `sport`. */
+    type?: string | null
+    /** The base type that it has when it is written, as `uint16`. */
+    base?: string | null
+}
+/** Names are told one after another: `[message, field, name]`, or what is said of the field in place of its name; `[message, name]` names a message
+ * by its number. A text has tabs between its cells: `message`, `message name`, `field`, `field name`, `unit`, `scale`, `offset`, `type`, `base type`
+ * in its first line, of which some may be left out. */
+export type ToldName = readonly [Kind, number, string | Named] | readonly [number, string]
+export type ToldNames = string | readonly ToldName[] | Iterable<ToldName>
+/** Names, units and scales of fields, and names of messages, beside those of the library. It throws RangeError for what can't be. */
+export class Names {
+    constructor(told?: ToldNames)
+    /** The numbers of the messages that are named, by their names. */
+    readonly messages: Map<string, number>
+    /** The name of a message, or null where it isn't named. */
+    message(number: number): string | null
+    /** What is said of the fields of a message, by their numbers. */
+    fields(number: number): Map<number, Readonly<Required<Named>>>
+    /** Names that have what both have, and of what both name what the others have. */
+    with(others: Names | ToldNames): Names
+}
+/** The fields and messages that recordings have and the proved profile hasn't. */
+export const EXTRA: Names
+export interface WithNames {
+    /** Names beside those of the library, as `EXTRA`. */
+    names?: Names | ToldNames
 }
 export interface Words {
     /** Whether a number that has a word is that word, as `cycling` for a sport. */
@@ -237,26 +353,37 @@ export class Gazhdor {
     show(source: Bytes, options: Encoded): Uint8Array
     /** The bytes of the file or files that a CSV text describes. */
     fromCsv(text: string | Bytes): Uint8Array
+    /** The track as GPX 1.1: a track for each file, a segment for each stretch from a start of the timer to a stop, a point for each record that has a
+     * place, with temperature, heart rate, cadence and power as extensions. */
+    gpx(source: Bytes, options?: Partial & { encoded?: false }): string
+    gpx(source: Bytes, options: Encoded): Uint8Array
     /** All that the files have as blocks of bytes, one after another, of which `fromBlocks` makes the same bytes again. */
     blocks(source: Bytes, options?: Partial): Uint8Array
     /** The bytes of the file or files that blocks say: docs/BLOCKS.md of the project says what is in one, and what of it is read here. */
     fromBlocks(blocks: Bytes): Uint8Array
-    /** The good messages of a file that was cut or damaged as a file of their own, with the files before it. */
-    mend(source: Bytes): Uint8Array
+    /** The good messages of a file that was cut or damaged as a file of their own, with the files before it. With `whole` a file that has records
+     * and no session gets what it lacks: a lap of those that are in none, a session, an activity message. */
+    mend(source: Bytes, options?: { whole?: boolean }): Uint8Array
+    /** A file, or a chain of files, with changes. Throws RangeError where no record has a time in the span, and UnknownName for a field that nothing
+     * names. */
+    edit(source: Bytes, changes?: Changes): Edited
+    /** Several files as a chain or, with `one`, as one activity. Throws RangeError where a file begins before the one before it ends, or has a
+     * developer field that it doesn't describe. */
+    join(sources: Iterable<Bytes>, options?: { one?: boolean }): Uint8Array
     /** A Message for each data message; with `ready` its values, as `Message.ready` gives them. */
-    messages(source: Bytes, options: Partial & Only & Words & { ready: true }): IterableIterator<Record<string, Ready>>
-    messages(source: Bytes, options?: Partial & Only & Words): IterableIterator<Message>
+    messages(source: Bytes, options: Partial & Only & Words & WithNames & { ready: true }): IterableIterator<Record<string, Ready>>
+    messages(source: Bytes, options?: Partial & Only & Words & WithNames): IterableIterator<Message>
     /** The values of fields in all messages of a name or number, in their order. Without `fields` it is each field that one of them has.
      * `timestamp` is the time of the message in milliseconds since 1970; `.latitude` and `.longitude` are in degrees; `.file`, `.place`, `.local`,
      * `.seconds`, `.time`, `.total_cycles`, `.accumulated_power` are what the message tells of itself; `.altitude`, `.speed` and `.distance` are
      * as in the table. With `ready` times are milliseconds since 1970, places degrees, several numbers columns `name_0`, `name_1` and so on,
      * and words, texts and bytes texts. */
-    columns(source: Bytes, message: Kind, fields: Iterable<Key> | undefined, options: Partial & Words & { ready: true }): Record<string, Column>
-    columns(source: Bytes, message: Kind, fields?: Iterable<Key>, options?: Partial & Words): Record<string, Column>
-    columns<Name extends string>(source: Bytes, message: Kind, fields: readonly Name[], options?: Partial & Words): Record<Name, Column>
+    columns(source: Bytes, message: Kind, fields: Iterable<Key> | undefined, options: Partial & Words & WithNames & { ready: true }): Record<string, Column>
+    columns(source: Bytes, message: Kind, fields?: Iterable<Key>, options?: Partial & Words & WithNames): Record<string, Column>
+    columns<Name extends string>(source: Bytes, message: Kind, fields: readonly Name[], options?: Partial & Words & WithNames): Record<Name, Column>
     /** For `pipeThrough`: bytes go in, and messages, texts or blocks come out; of "check" the bytes themselves. */
-    stream(kind: "messages", options?: Only & Words): ReadableWritablePair<Message, Bytes>
-    stream(kind: "show" | "table" | "toCsv"): ReadableWritablePair<string, Bytes>
+    stream(kind: "messages", options?: Only & Words & WithNames): ReadableWritablePair<Message, Bytes>
+    stream(kind: "show" | "table" | "toCsv" | "gpx"): ReadableWritablePair<string, Bytes>
     stream(kind: "blocks"): ReadableWritablePair<Uint8Array, Bytes>
     stream(kind: "check"): ReadableWritablePair<Bytes, Bytes>
     /** Bytes of the module's memory now. */
@@ -265,7 +392,7 @@ export class Gazhdor {
 
 /** FIT files that come in pieces. It keeps what the next piece needs, and no more for more bytes. */
 export class Stream<Made extends string | Uint8Array | Message[] = string | Uint8Array | Message[]> {
-    constructor(gazhdor: Gazhdor, kind: StreamKind, options?: Only & Words)
+    constructor(gazhdor: Gazhdor, kind: StreamKind, options?: Only & Words & WithNames)
     /** How many files have ended so far. */
     readonly files: number
     /** Takes the next bytes, of any length, and returns what they complete: whole lines, messages or blocks. */
@@ -291,5 +418,7 @@ export function words(type: string): Record<number, string>
 
 /** Degrees of semicircles. */
 export function degrees(semicircles: number): number
+/** The semicircles that are nearest to degrees. */
+export function semicircles(degrees: number): number
 
 export const VERSION: string

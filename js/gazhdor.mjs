@@ -14,12 +14,18 @@
 import { Gazhdor } from "./src/library.mjs"
 import { limited } from "./src/limited.mjs"
 
-export { Answer, BlocksRefused, FitError, OutOfMemory, Refused, TextRefused, TooManyCells, Trapped, Truncated, WrongModule } from "./src/answers.mjs"
+export {
+    Answer, BlocksRefused, FitError, NotDescribed, OutOfMemory, Refused, TextRefused, TooManyCells, Trapped, Truncated, WrongModule, WrongValue,
+} from "./src/answers.mjs"
 export { VERSION } from "./src/core.mjs"
 export { Gazhdor, Stream } from "./src/library.mjs"
-export { Field, Message, degrees, when } from "./src/messages.mjs"
+export { Field, Message } from "./src/messages.mjs"
+export { EXTRA, Names } from "./src/names.mjs"
+export { degrees, semicircles, when } from "./src/plain.mjs"
 export { UnknownName } from "./src/profile.mjs"
+export { DeveloperField } from "./src/shapes.mjs"
 export { words } from "./src/words.mjs"
+export { WrittenMessage, Writer } from "./src/writer.mjs"
 
 async function fetched(url) {
     if (url.protocol === "file:" && globalThis.process?.versions?.node !== undefined) {

@@ -9,7 +9,7 @@
  * by `terminate`. In Node it is a Worker of node:worker_threads. */
 import { Message, open } from "./gazhdor.mjs"
 
-const CALLS = ["check", "table", "tableText", "toCsv", "show", "fromCsv", "blocks", "fromBlocks", "mend", "messages", "columns"]
+const CALLS = ["check", "table", "tableText", "toCsv", "show", "gpx", "fromCsv", "blocks", "fromBlocks", "mend", "edit", "join", "messages", "columns"]
 const isBrowser = globalThis.WorkerGlobalScope !== undefined
 const port = isBrowser ? globalThis : (await import(/* webpackIgnore: true */ /* @vite-ignore */ "node:worker_threads")).parentPort
 

@@ -1,6 +1,7 @@
 /* The commands, on files one after another. */
-import { existsSync, statSync } from "node:fs"
-import { FitError, OutOfMemory, Stream } from "../gazhdor.mjs"
+import { readFileSync } from "node:fs"
+import { EXTRA, FitError, Names, OutOfMemory, Stream } from "../gazhdor.mjs"
+import { Track } from "../src/gpx.mjs"
 import { NoFitFile, NotUnpacked } from "./archives.mjs"
 import { Input, faultOf, pathsOf } from "./inputs.mjs"
 import { NotWritten, Output, Usage, seeNoTerminal, seeOtherFiles } from "./outputs.mjs"
@@ -39,6 +40,24 @@ export function readyLineOf(message) {
     return `{${front.map(([name, value]) => `${JSON.stringify(name)}:${textOf(value)}`).join(",")},"fields":{${fields.join(",")}}}\n`
 }
 
+/* The names that json uses beside those of the profile. */
+function namesOf({ tokens }) {
+    let found
+    for (const { name, value } of tokens.filter(({ name }) => name === "extra" || name === "names")) {
+        const more = name === "extra" ? EXTRA : namesOfText(value)
+        found = found === undefined ? more : found.with(more)
+    }
+    return found
+}
+
+function namesOfText(path) {
+    try {
+        return new Names(readFileSync(path, "utf8"))
+    } catch (error) {
+        throw new Usage(`--names: ${error.code === undefined ? error.message : `${shown(path)}: ${faultOf(error)}`}`)
+    }
+}
+
 /* Does one of the commands on files. */
 class Reader {
     #gazhdor
@@ -46,19 +65,21 @@ class Reader {
     #asked
     #progress
     #output
+    #names
 
     constructor(gazhdor, command, asked, progress) {
+        this.#names = namesOf(asked)
         this.#gazhdor = gazhdor
         this.#command = command
         this.#asked = asked
         this.#progress = progress
-        this.#output = new Output(command === "mend" ? asked.files[1] : asked.output, progress)
+        this.#output = new Output(asked.output, progress)
     }
 
     /* What is made of the pieces of a file, as they come, and how many files it is. */
     async #streamed(input) {
-        const kind = KINDS[this.#command], options = kind === "messages" ? { words: !this.#asked.numbers } : undefined
-        const stream = new Stream(this.#gazhdor, kind, options)
+        const kind = KINDS[this.#command], options = kind === "messages" ? { words: !this.#asked.numbers, names: this.#names } : undefined
+        const stream = this.#command === "gpx" ? new Track(this.#gazhdor) : new Stream(this.#gazhdor, kind, options)
         const line = this.#asked.ready ? readyLineOf : lineOf
         const put = made => (kind === "check" ? undefined : this.#output.write(Array.isArray(made) ? made.map(line).join("") : made))
         try {
@@ -73,15 +94,7 @@ class Reader {
         return stream.files
     }
 
-    async #mended(name, input) {
-        const data = await input.bytes(), made = this.#gazhdor.mend(data)
-        this.#progress.clear()
-        if (!Buffer.from(made).equals(data)) fault(`${shown(name)}: ${this.#gazhdor.check(data)}; mended: ${made.length} of ${data.length} bytes\n`)
-        await this.#output.write(made)
-    }
-
     async #made(name, input) {
-        if (this.#command === "mend") return this.#mended(name, input)
         if (this.#command === "from-csv") return this.#output.write(this.#gazhdor.fromCsv(await input.bytes()))
         const files = await this.#streamed(input)
         if (this.#command === "check") await this.#checked(name, { good: true, files, place: null, reason: null, is: null, text: "ok" })
@@ -133,24 +146,14 @@ class Reader {
     close() { this.#output.close() }
 }
 
-/* Whether a file is there, which is no device. */
-const isThere = path => path !== undefined && path !== "-" && existsSync(path) && statSync(path).isFile()
-
 /* Does a command on all files that the words name, and returns the worst status. */
 export async function runReader(gazhdor, command, asked, progress) {
-    let names = asked.files
-    if (command === "mend") {
-        if (names.length > 2) throw new Usage("mend: it takes IN, and OUT")
-        seeNoTerminal(command, names[1])
-        if (isThere(names[1]) && !asked.force) throw new Usage(`${shown(names[1])} is there already: --force replaces it`)
-        names = names.slice(0, 1)
-    }
     if (command === "from-csv") seeNoTerminal(command, asked.output)
-    seeOtherFiles(asked.output, names)
+    seeOtherFiles(asked.output, asked.files)
     const reader = new Reader(gazhdor, command, asked, progress)
     let worst = 0
-    for (const path of pathsOf(names, asked.recursive)) worst = Math.max(worst, await reader.done(path))
+    for (const path of pathsOf(asked.files, asked.recursive)) worst = Math.max(worst, await reader.done(path))
     progress.clear()
-    if (command !== "mend" || worst === 0) reader.close()
+    reader.close()
     return worst
 }

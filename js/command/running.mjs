@@ -1,11 +1,13 @@
 /* Does what the words of a command line say, and ends with the exit status. */
 import { VERSION, open } from "../gazhdor.mjs"
+import { runChange } from "./changing.mjs"
 import { NotWritten, Usage } from "./outputs.mjs"
 import { help, helpOf, parsed, wanted } from "./parsing.mjs"
 import { Progress } from "./progress.mjs"
 import { faultOf } from "./inputs.mjs"
 import { runReader } from "./reading.mjs"
 
+const CHANGING = ["edit", "join", "mend"]
 const USAGE = 2, OUTPUT = 4, INTERRUPTED = 130
 
 /* The status of the words. */
@@ -17,10 +19,10 @@ async function done(words) {
     if (first === "help") return said(helpOf(command))
     const asked = parsed(command, rest)
     if (asked.help) return said(helpOf(command))
-    const isText = !["check", "mend"].includes(command) && asked.output === undefined
+    const isText = !["check", ...CHANGING].includes(command) && asked.output === undefined
     const progress = new Progress(isText && Boolean(process.stdout.isTTY))
     process.once("exit", () => progress.clear())
-    return runReader(await open(), command, asked, progress)
+    return (CHANGING.includes(command) ? runChange : runReader)(await open(), command, asked, progress)
 }
 
 function said(text) {

@@ -1,6 +1,7 @@
 /* The charts and the track of a ride, and what is marked on them. */
 import { Chart } from "./chart.mjs"
 import { toldOf } from "./cards.mjs"
+import { momentsOf } from "./cutting.mjs"
 import { byId, card, choice, element } from "./element.mjs"
 import { follow } from "./pointing.mjs"
 import { elapsed } from "./scales.mjs"
@@ -40,7 +41,8 @@ function marked(view, units, sport, save) {
     place.setAttribute("aria-live", "polite")
     const button = (text, onclick) => element("button", text, { type: "button", onclick })
     const buttons = element("p", undefined, {}, button("Zoom in", () => view.zoom(view.span)), button("Clear", () => view.mark(null)))
-    if (view.points.latitude !== undefined) buttons.append(button("Save as GPX", event => save(event.target, view.span)))
+    if (view.points.latitude !== undefined) buttons.append(button("Save as GPX", event => save(event.target, "gpx", view.span)))
+    if (view.hasTime) buttons.append(button("Save as FIT file", event => save(event.target, "cut", momentsOf(view.points, view.span))))
     view.on("span", span => {
         place.hidden = span === null
         if (span === null) return

@@ -1,8 +1,7 @@
 /* What the page's Worker answers. */
+import { gpxOf } from "../src/gpx.mjs"
 import { Gazhdor } from "../src/library.mjs"
 import { exampleRide } from "./example.mjs"
-import { gpxOf } from "./gpx.mjs"
-import { emptyPlaces } from "./places.mjs"
 import { memoryOf, rideOf } from "./reading.mjs"
 
 let module, bytes, gazhdor
@@ -30,8 +29,10 @@ const CALLS = {
     rows: () => gazhdor.toCsv(bytes, { partial: true, encoded: true }),
     lines: () => gazhdor.show(bytes, { partial: true, encoded: true }),
     mended: () => gazhdor.mend(bytes),
-    gpx: ({ data: { from, to } = {} }) => gpxOf(gazhdor, bytes, from, to),
-    placeless: () => gazhdor.fromBlocks(emptyPlaces(gazhdor.blocks(gazhdor.mend(bytes)))),
+    gpx: ({ data: { from, to } = {} }) => new TextEncoder().encode(gpxOf(gazhdor, bytes, { partial: true, from, to })),
+    placeless: () => gazhdor.edit(gazhdor.mend(bytes), { drop: "position" }).bytes,
+    /* A part of it, from one moment to another. */
+    cut: ({ data: { begin, end } }) => gazhdor.edit(gazhdor.mend(bytes), { begin: new Date(begin), end: new Date(end) }).bytes,
 }
 
 /* Answers a request of the page: what a call made and the memory that goes with it, or what is wrong in words. `tell` is told of a long one the

@@ -5,7 +5,7 @@ import { ask } from "./link.mjs"
 /* Of each button what it saves: how the name ends, and the type. */
 const KINDS = {
     table: [".table.csv", "text/csv"], rows: [".csv", "text/csv"], lines: [".txt", "text/plain"], gpx: [".gpx", "application/gpx+xml"],
-    mended: ["-mended.fit", "application/octet-stream"], placeless: ["-without-places.fit", "application/octet-stream"],
+    cut: [".fit", "application/octet-stream"], mended: ["-mended.fit", "application/octet-stream"], placeless: ["-without-places.fit", "application/octet-stream"],
 }
 
 function download(name, bytes, type) {

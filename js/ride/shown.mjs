@@ -57,7 +57,7 @@ function render() {
     const units = unitsOf(settings.units === "miles"), { ride, name, other, view: old } = shown, view = shown.view = new View(ride)
     byId("summary").replaceChildren(...summaryOf(ride, units, markRow))
     const away = () => { shown.other = null; render() }
-    const drawn = new Drawn(ride, other?.ride, { view, units, again, save: (button, span) => save(button, "gpx", shown, span) })
+    const drawn = new Drawn(ride, other?.ride, { view, units, again, save: (button, call, part) => save(button, call, shown, part) })
     const curves = efforts(shown, units)
     tables(shown, units, markRow)
     byId("besides").replaceChildren(...(other ? [besideTable([ride, other.ride], [name, other.name], units, away)] : []))

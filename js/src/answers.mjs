@@ -1,6 +1,7 @@
 /* What the library found, and the errors that say so. */
 import { BLOCK, CLOSED, GOOD, NO_KIND, NO_MEMORY, REFUSED, TEXT, TRUNCATED, UNWRITABLE } from "./numbers.mjs"
 
+const PLACED = [REFUSED, TRUNCATED, BLOCK]
 const TEXTS = {
     [GOOD]: "ok", [NO_MEMORY]: "out of memory", [UNWRITABLE]: "no file has such rows", [CLOSED]: "closed", [NO_KIND]: "no such kind",
 }
@@ -41,6 +42,12 @@ export const BLOCK_REASONS = {
     Offset: "has a time offset of 32 to 254",
     Undefined: "is a message whose local message type isn't defined",
     Items: "is a message that ends before the items of its fields do",
+    NoFile: "comes before a file has begun",
+    Files: "begins one file more than a chain may have",
+    Full: "is a message of 255 fields that needs a timestamp",
+    Time: "is a message that needs a timestamp, and whose time is the number that stands for none",
+    Described: "is a message of which a developer field has another base type, name or unit in this file, or none",
+    TooLong: "would make the data of its file longer than a file may have",
 }
 
 /* What a call found. It is `good` where the bytes are a FIT file or several, one after another; as text it is the finding. */
@@ -49,8 +56,9 @@ export class Answer {
         this.status = told.status
         this.good = told.status === GOOD
         this.files = this.good ? told.files : 0
-        this.place = [REFUSED, TRUNCATED, BLOCK].includes(told.status) ? told.place : null
-        this.reason = Object.keys({ [REFUSED]: REASONS, [BLOCK]: BLOCK_REASONS }[told.status] ?? {})[told.reason - 1] ?? null
+        this.place = PLACED.includes(told.status) ? told.place : null
+        const reasons = told.status === REFUSED ? REASONS : told.status === BLOCK ? BLOCK_REASONS : null
+        this.reason = reasons === null ? null : Object.keys(reasons)[told.reason - 1] ?? null
         this.block = told.status === BLOCK ? told.row : null
         this.row = told.status === TEXT ? told.row : null
         this.column = told.status === TEXT && told.column !== 0 ? told.column : null
@@ -112,6 +120,26 @@ export class BlocksRefused extends FitError {
     get explanation() { return this.block === null ? NO_SUCH_FILES : super.explanation }
 }
 
+/* A value that a field can't have: `field` is what the field is called, `value` the value, `least` and `most` what it can have, if that is a
+ * number. */
+export class WrongValue extends RangeError {
+    constructor(what, { field, value, least = null, most = null }) {
+        super(`${field}: ${what}`)
+        this.field = field
+        this.value = value
+        this.least = least
+        this.most = most
+    }
+}
+
+/* A message can't be put into a file: its developer field `field` isn't described where it comes from, and is in this file. */
+export class NotDescribed extends Error {
+    constructor(field) {
+        super(`the developer field ${field} isn't described where it comes from, and is in this file`)
+        this.field = field
+    }
+}
+
 /* The engine gave no more memory, to the module or for what it made. This says nothing of the bytes. */
 export class OutOfMemory extends RangeError {
     constructor(text = "out of memory") { super(`gazhdor: ${text}`) }
@@ -131,7 +159,7 @@ export class Trapped extends Error {
 /* What was opened is no module of gazhdor, or one of another version. */
 export class WrongModule extends Error {}
 
-for (const kind of [FitError, Refused, Truncated, TextRefused, BlocksRefused, OutOfMemory, TooManyCells, Trapped, WrongModule])
+for (const kind of [FitError, Refused, Truncated, TextRefused, BlocksRefused, WrongValue, NotDescribed, OutOfMemory, TooManyCells, Trapped, WrongModule])
     Object.defineProperty(kind.prototype, "name", { value: kind.name, configurable: true, writable: true })
 
 /* Throws what is wrong; of what may be had in part, only that memory was refused. */

@@ -3,9 +3,10 @@
 import { Answer, OutOfMemory, Trapped, WrongModule } from "./answers.mjs"
 import { NO_MEMORY } from "./numbers.mjs"
 
-export const VERSION = "0.8.0"
+export const VERSION = "0.9.0"
 
 const CALLS = ["check", "table", "to_csv", "show", "messages", "from_csv", "from_messages", "open", "feed", "finish", "close", "alloc", "free", "version"]
+const WRITER_CALLS = ["open", "file", "definition", "messages", "finish", "close"].map(name => `writer_${name}`)
 
 /* Beside each call stand 40 bytes of its answer and 16 of its text: where that lies, and its length. */
 const TEXT_AT = 40
@@ -18,18 +19,22 @@ const nothing = () => NONE
 export class Core {
     #calls
     #place
+    #beside = null
     #trap
 
     constructor(instance) {
-        const calls = instance.exports
-        const lacks = CALLS.find(name => typeof calls[`gazhdor_${name}`] !== "function")
-        if (lacks !== undefined || !(calls.memory instanceof WebAssembly.Memory))
-            throw new WrongModule(`this is no module of gazhdor: it has no ${lacks === undefined ? "memory" : `gazhdor_${lacks}`}`)
-        this.#calls = calls
+        this.#calls = instance.exports
+        this.#seeCalls(CALLS)
+        if (!(this.#calls.memory instanceof WebAssembly.Memory)) throw new WrongModule("this is no module of gazhdor: it has no memory")
         const told = this.#version()
         if (told !== VERSION) throw new WrongModule(`the module is of version ${told}, and gazhdor.mjs of version ${VERSION}`)
         this.#place = this.#taken(PLACE)
         if (this.#place === 0n) throw new OutOfMemory()
+    }
+
+    #seeCalls(names) {
+        const lacks = names.find(name => typeof this.#calls[`gazhdor_${name}`] !== "function")
+        if (lacks !== undefined) throw new WrongModule(`this is no module of gazhdor: it has no gazhdor_${lacks}`)
     }
 
     #version() {
@@ -60,7 +65,12 @@ export class Core {
         return at
     }
 
-    #view() { return new DataView(this.#calls.memory.buffer, Number(this.#place), PLACE) }
+    /* What stands beside each call. The memory is another buffer once it has grown. */
+    #view() {
+        const { buffer } = this.#calls.memory
+        if (this.#beside?.buffer !== buffer) this.#beside = new DataView(buffer, Number(this.#place), PLACE)
+        return this.#beside
+    }
 
     /* Makes a call, and returns its answer and what `use` makes of the bytes that the call made, where they lie: it keeps none of them, and
      * makes no call. `words` are those after the place of the answer, and before that of the text. */
@@ -82,7 +92,7 @@ export class Core {
     }
 
     #answer() {
-        const view = this.#view(), number = at => Number(view.getBigUint64(at, true))
+        const view = this.#view(), number = at => view.getUint32(at, true) + view.getUint32(at + 4, true) * 2 ** 32
         return new Answer({
             status: view.getUint32(0, true), reason: view.getUint32(4, true), place: number(8), row: number(16), column: number(24), files: number(32),
         })
@@ -112,10 +122,12 @@ export class Core {
     }
 
     /* Opens a stream, and returns where it is; 0 where memory was refused. */
-    open(kind) {
+    open(kind) { return this.#opened("gazhdor_open", kind) }
+
+    #opened(name, ...words) {
         const at = this.#put(new Uint8Array(8))
         if (at === 0n) return 0n
-        this.#enter("gazhdor_open", this.#place, at, kind)
+        this.#enter(name, this.#place, at, ...words)
         if (this.#answer().good) return at
         this.#free(at)
         return 0n
@@ -126,11 +138,33 @@ export class Core {
     }
 
     finish(stream, use) { return this.#made("gazhdor_finish", [stream], use) }
+    close(stream) { this.#closed("gazhdor_close", stream) }
 
-    close(stream) {
+    #closed(name, at) {
         if (this.#trap !== undefined) return
-        this.#enter("gazhdor_close", stream)
-        this.#free(stream)
+        this.#enter(name, at)
+        this.#free(at)
+    }
+
+    /* The same of a writer. */
+    openWriter() {
+        this.#seeCalls(WRITER_CALLS)
+        return this.#opened("gazhdor_writer_open")
+    }
+
+    finishWriter(writer, use) { return this.#made("gazhdor_writer_finish", [writer], use) }
+    closeWriter(writer) { this.#closed("gazhdor_writer_close", writer) }
+
+    /* What a call of a writer answers of some bytes: `file` of the block of a header, `definition` of that of a definition, `messages` of that and
+     * the blocks of messages. */
+    put(call, writer, bytes, ...more) {
+        const words = [], put = (at, length) => {
+            words.push(at, length)
+            if (more.length > 0) return this.#with(more.shift(), put, nothing)
+            this.#enter(`gazhdor_writer_${call}`, this.#place, writer, ...words)
+            return [this.#answer()]
+        }
+        return this.#with(bytes, put, nothing)[0]
     }
 }
 

@@ -2,11 +2,16 @@
 import { FitError, judge, judgeBlocks } from "./answers.mjs"
 import { Columns } from "./columns.mjs"
 import { Core, copied, decoded } from "./core.mjs"
+import { edited } from "./edits.mjs"
+import { Track, gpxOf } from "./gpx.mjs"
+import { joinedFiles } from "./joins.mjs"
 import { mended } from "./mend.mjs"
 import { Walk } from "./messages.mjs"
+import { seeNames } from "./names.mjs"
 import { when } from "./plain.mjs"
 import { PIECE, bytesOf, pieces } from "./sources.mjs"
 import { Pipe, Stream, coreOf, transform } from "./streams.mjs"
+import { completed } from "./wholes.mjs"
 
 /* The text of a call, of what comes before a fault where that is asked for. */
 function converted(core, call, source, { partial = false, encoded = false } = {}) {
@@ -50,6 +55,12 @@ export class Gazhdor {
     toCsv(source, options) { return converted(this.#core, "to_csv", source, options) }
     show(source, options) { return converted(this.#core, "show", source, options) }
 
+    /* The track as GPX 1.1. */
+    gpx(source, { partial = false, encoded = false } = {}) {
+        const text = gpxOf(this, bytesOf(source), { partial })
+        return encoded ? new TextEncoder().encode(text) : text
+    }
+
     /* The bytes of the FIT file or files that a CSV text describes. */
     fromCsv(text) {
         const bytes = typeof text === "string" ? new TextEncoder().encode(text) : bytesOf(text)
@@ -68,14 +79,19 @@ export class Gazhdor {
         return made
     }
 
-    /* A good file, or chain of files, of one that was broken off or is damaged. Where there is no good record, its fault is thrown. */
-    mend(source) {
-        const bytes = bytesOf(source), answer = this.check(bytes)
-        if (answer.good) return copied(bytes)
-        const made = mended(this.#core, bytes)
-        if (made.length === 0 || !this.check(made).good) judge(answer)
-        return made
+    /* A good file, or chain of files, of one that was broken off or is damaged. Where there is no good record, its fault is thrown. With `whole`
+     * a file that has records and no session gets what it lacks. */
+    mend(source, { whole = false } = {}) {
+        const bytes = bytesOf(source), answer = this.check(bytes), made = answer.good ? copied(bytes) : mended(this.#core, bytes)
+        if (!answer.good && (made.length === 0 || !this.check(made).good)) judge(answer)
+        return whole ? completed(this, made) : made
     }
+
+    /* The bytes of a file, or a chain of files, with changes, and how many values were emptied of each field. */
+    edit(source, changes) { return edited(this, bytesOf(source), changes) }
+
+    /* Several files as a chain or, with `one`, as one activity. */
+    join(sources, { one = false } = {}) { return joinedFiles(this, [...sources].map(bytesOf), one) }
 
     /* An object for each record message. */
     table(source, options) {
@@ -85,7 +101,7 @@ export class Gazhdor {
 
     /* A Message for each data message, or for those that are asked for; with `ready` an object of its values. */
     messages(source, options = {}) {
-        const walk = new Walk(options.only, options.words)
+        const walk = new Walk(options.only, { words: options.words, names: seeNames(options.names) })
         const made = blocks => walk.messages(blocks)
         return this.#each("messages", source, options, options.ready ? blocks => made(blocks).map(message => message.ready()) : made)
     }
@@ -98,9 +114,10 @@ export class Gazhdor {
     }
 
     /* A typed array for each of some fields of the messages of one name or number. */
-    columns(source, message, fields, { partial = false, words = false, ready = false } = {}) {
+    columns(source, message, fields, { partial = false, words = false, ready = false, names } = {}) {
         if (typeof message !== "string" && typeof message !== "number") throw new TypeError("a message is named by its name or its number")
-        const walk = new Walk(message, words || ready), columns = new Columns(message, fields, ready), bytes = bytesOf(source)
+        const told = { words: words || ready, names: seeNames(names) }, bytes = bytesOf(source)
+        const walk = new Walk(message, told), columns = new Columns(message, fields, { ready, names: told.names })
         try {
             for (const _ of each(new Pipe(this.#core, "blocks"), bytes, blocks => [columns.take(blocks, walk.runs(blocks))]));
         } catch (error) {
@@ -110,7 +127,7 @@ export class Gazhdor {
     }
 
     /* A pair of streams, for `pipeThrough`. */
-    stream(kind, options) { return transform(this, kind, options) }
+    stream(kind, options) { return transform(kind === "gpx" ? new Track(this) : new Stream(this, kind, options), kind === "check") }
 
     /* Bytes of the module's memory now. It grows with the longest call, and never shrinks: what isn't used any more is freed as a whole. */
     get size() { return this.#core.size }

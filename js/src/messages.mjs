@@ -1,6 +1,7 @@
 /* Messages as values, made from the blocks of docs/BLOCKS.md. */
+import { added, replaced } from "./changed.mjs"
 import {
-    AT_DEFINITION_LOCAL, AT_DEFINITION_MESSAGE, AT_DEFINITION_NUMBER, AT_FILE, AT_KIND, AT_LENGTH, AT_MESSAGE_BITS,
+    AT_DEFINITION_LOCAL, AT_DEFINITION_NUMBER, AT_FILE, AT_KIND, AT_LENGTH, AT_MESSAGE_BITS,
     AT_MESSAGE_CYCLES, AT_MESSAGE_DEFINITION, AT_MESSAGE_DISTANCE, AT_MESSAGE_HEADER_TIME, AT_MESSAGE_LOCAL,
     AT_MESSAGE_OFFSET, AT_MESSAGE_POWER, AT_MESSAGE_SPEED, AT_MESSAGE_TIME, AT_PLACE, DEFINITION, MESSAGE, NO_OFFSET,
     TOLD_CYCLES, TOLD_DISTANCE, TOLD_HEADER_TIME, TOLD_POWER, TOLD_SPEED, TOLD_TIME,
@@ -8,7 +9,8 @@ import {
 import { SYSTEM_TIMES, degrees, hex, milliseconds, when } from "./plain.mjs"
 import { seeMessage } from "./profile.mjs"
 import { readyOf } from "./ready.mjs"
-import { Definition, exactOf, rawOf, whole } from "./values.mjs"
+import { definitionOf, sameIn } from "./shared.mjs"
+import { exactOf, partOf, rawOf, whole } from "./values.mjs"
 import { wordOf } from "./words.mjs"
 
 export { SYSTEM_TIMES, degrees, milliseconds, when }
@@ -49,17 +51,33 @@ export class Field {
     toString() { return `${this.name ?? this.#entry.numbers}=${this.value}${this.unit === null ? "" : ` ${this.unit}`}` }
 }
 
+let read
+
+/* What a message is made of: its definition, the bytes in which its block stands, and where it begins there. */
+export const insideOf = message => read(message)
+export const messageOf = ({ definition, part, at }) => new Message(definition, part, at)
+
 /* A data message. It keeps the bytes of the messages that came with it, and makes a value when it is asked for it. */
 export class Message {
     #definition
     #part
     #at
 
+    static {
+        read = message => ({ definition: message.#definition, part: message.#part, at: message.#at })
+    }
+
     constructor(definition, part, at) {
         this.#definition = definition
         this.#part = part
         this.#at = at
     }
+
+    /* The message with other values of some of its fields. */
+    replace(values) { return messageOf(replaced(read(this), values)) }
+
+    /* The same, and with fields that it hasn't had. */
+    adding(values) { return messageOf(added(read(this), values)) }
 
     /* The value of a field; null where it has none, undefined where the message has no such field. */
     get(key) { return this.#definition.entry(key)?.read(this.#part, this.#at) }
@@ -165,16 +183,15 @@ function plain(value) {
     return value instanceof Uint8Array ? hex(value) : value
 }
 
-const MOST = 1 << 20 // So many bytes of definitions are kept, beside the current ones.
-const latin1 = new TextDecoder("latin1")
+const MOST = 1 << 20, LEAST = 512 // So many bytes of definitions are kept beside the current ones; each counts as that many more.
 
 /* What tells by its number and its name whether a message is asked for. */
-function wants(only) {
+function wants(only, names) {
     if (only === undefined || only === null) return () => true
     const kinds = typeof only === "string" || typeof only === "number" ? [only] : [...only]
     for (const kind of kinds) {
         if (typeof kind !== "string" && typeof kind !== "number") throw new TypeError(`a message is named by its name or its number, and not by ${typeof kind}`)
-        seeMessage(kind)
+        seeMessage(kind, names)
     }
     return definition => kinds.includes(definition.number) || (definition.name !== null && kinds.includes(definition.name))
 }
@@ -185,18 +202,21 @@ export class Walk {
     #all
     #current = new Map() // of each local message type the last definition, where it is asked for, and its number among all
     #known = new Map() // what some definitions say, so that one which comes again isn't looked into again
-    #room = MOST
-    #words
+    #most
+    #room
+    #told
 
-    constructor(only, words = false) {
-        this.#words = words
-        this.#wants = wants(only)
+    /* `told` says whether values are words, and the names of the caller. Of definitions so many bytes are kept, beside the current ones. */
+    constructor(only, told = {}, most = MOST) {
+        this.#told = told
+        this.#room = this.#most = most
+        this.#wants = wants(only, told.names)
         this.#all = only === undefined || only === null
     }
 
     /* The messages that are asked for, those of one definition that follow one another together: where the first begins, where the last
-     * ends, and how long each is. */
-    runs(bytes) {
+     * ends, and how long each is. With `all` also each other block, which has no definition. */
+    runs(bytes, all = false) {
         const view = new DataView(bytes.buffer, bytes.byteOffset, bytes.byteLength), found = []
         for (let at = 0; at < bytes.length;) {
             const length = view.getUint32(at + AT_LENGTH, true)
@@ -211,6 +231,7 @@ export class Walk {
                 const number = view.getBigUint64(at + AT_DEFINITION_NUMBER, true)
                 this.#current.set(bytes[at + AT_DEFINITION_LOCAL], { number, definition: this.#definition(bytes.subarray(at, end)) })
             }
+            if (all && bytes[at + AT_KIND] !== MESSAGE) found.push({ definition: null, begin: at, end, length })
             at = end
         }
         return found
@@ -228,21 +249,18 @@ export class Walk {
     }
 
     #definition(block) {
-        // What comes before says nothing of messages but their length, which their fields have.
-        const same = latin1.decode(block.subarray(AT_DEFINITION_MESSAGE))
+        const same = sameIn(block)
         let found = this.#known.get(same)
         if (found === undefined) {
-            this.#room -= same.length
+            this.#room -= same.length + LEAST
             if (this.#room < 0) {
                 this.#known.clear()
-                this.#room = MOST - same.length
+                this.#room = this.#most - same.length - LEAST
             }
-            const definition = new Definition(block, this.#words)
+            const definition = definitionOf(block, this.#told, same)
             found = this.#wants(definition) ? definition : null
             this.#known.set(same, found)
         }
         return found
     }
 }
-
-const partOf = bytes => ({ bytes, view: new DataView(bytes.buffer) })

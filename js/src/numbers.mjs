@@ -116,3 +116,24 @@ export const STREAM_SHOW = 1
 export const STREAM_TABLE = 2
 export const STREAM_TO_CSV = 3
 export const STREAM_MESSAGES = 4
+
+// The base types: name, code, what the items stand for, the bytes of one, and the item that stands for no value.
+export const BASE_TYPES = [
+    ["enum", 0x00, UNSIGNED, 1, 0xFFn],
+    ["sint8", 0x01, SIGNED, 1, 0x7Fn],
+    ["uint8", 0x02, UNSIGNED, 1, 0xFFn],
+    ["string", 0x07, STRING, 1, 0n],
+    ["uint8z", 0x0A, UNSIGNED, 1, 0n],
+    ["byte", 0x0D, BYTES, 1, 0xFFn],
+    ["sint16", 0x83, SIGNED, 2, 0x7FFFn],
+    ["uint16", 0x84, UNSIGNED, 2, 0xFFFFn],
+    ["sint32", 0x85, SIGNED, 4, 0x7FFFFFFFn],
+    ["uint32", 0x86, UNSIGNED, 4, 0xFFFFFFFFn],
+    ["float32", 0x88, FLOAT, 4, 0xFFFFFFFFn],
+    ["float64", 0x89, FLOAT, 8, 0xFFFFFFFFFFFFFFFFn],
+    ["uint16z", 0x8B, UNSIGNED, 2, 0n],
+    ["uint32z", 0x8C, UNSIGNED, 4, 0n],
+    ["sint64", 0x8E, SIGNED, 8, 0x7FFFFFFFFFFFFFFFn],
+    ["uint64", 0x8F, UNSIGNED, 8, 0xFFFFFFFFFFFFFFFFn],
+    ["uint64z", 0x90, UNSIGNED, 8, 0n],
+]

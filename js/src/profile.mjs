@@ -1,40 +1,26 @@
-/* The names that the profile has, of messages and of their fields, as profile/fields.tsv of the project; and names that nothing has. */
+/* The names that the profile has, of messages and of their fields; and names that nothing has. */
+import { PROFILE } from "./names_table.mjs"
 
-/* Of each message its number, and the names of its fields; each message may have a timestamp. */
-export const PROFILE = {
-    file_id: [0, ["type", "manufacturer", "product", "serial_number", "time_created", "number", "product_name"]],
-    sport: [12, ["sport", "sub_sport", "name"]],
-    session: [18, [
-        "event", "event_type", "start_time", "start_position_lat", "start_position_long", "sport", "sub_sport",
-        "total_elapsed_time", "total_timer_time", "total_distance", "total_cycles", "total_calories", "avg_speed",
-        "max_speed", "avg_heart_rate", "max_heart_rate", "avg_cadence", "max_cadence", "avg_power", "max_power",
-        "total_ascent", "total_descent", "first_lap_index", "num_laps", "trigger",
-    ]],
-    lap: [19, [
-        "event", "event_type", "start_time", "start_position_lat", "start_position_long", "end_position_lat",
-        "end_position_long", "total_elapsed_time", "total_timer_time", "total_distance", "total_cycles", "total_calories",
-        "avg_speed", "max_speed", "avg_heart_rate", "max_heart_rate", "avg_cadence", "max_cadence", "avg_power",
-        "max_power", "total_ascent", "total_descent", "intensity", "lap_trigger", "sport",
-    ]],
-    record: [20, [
-        "position_lat", "position_long", "altitude", "heart_rate", "cadence", "distance", "speed", "power",
-        "compressed_speed_distance", "grade", "time_from_course", "temperature", "cycles", "total_cycles",
-        "compressed_accumulated_power", "accumulated_power", "vertical_speed", "calories", "vertical_oscillation",
-        "stance_time", "enhanced_speed", "enhanced_altitude",
-    ]],
-    event: [21, ["event", "event_type", "data16", "data", "event_group"]],
-    device_info: [23, [
-        "device_index", "device_type", "manufacturer", "serial_number", "product", "software_version", "hardware_version",
-        "cum_operating_time", "battery_voltage", "battery_status",
-    ]],
-    activity: [34, ["total_timer_time", "num_sessions", "type", "event", "event_type", "local_timestamp"]],
-    file_creator: [49, ["software_version", "hardware_version"]],
-    hrv: [78, ["time"]],
-    field_description: [206, [
-        "developer_data_index", "field_definition_number", "fit_base_type_id", "field_name", "units",
-    ]],
-    developer_data_id: [207, ["application_id", "developer_data_index", "application_version"]],
+/* What is said of a field by itself. */
+const fieldOf = ([number, name, unit = null, scale = null, offset = null, type = null, base = null]) => ({ number, name, unit, scale, offset, type, base })
+
+const OF_ALL = [[253, "timestamp", "s", null, null, "date_time", "uint32"], [254, "message_index", null, null, null, null, "uint16"]]
+const byName = new Map(), byNumber = new Map(), ANY = new Map([[253, fieldOf(OF_ALL[0])]])
+for (const [number, name, fields] of PROFILE) {
+    const known = { number, name, fields: new Map([...OF_ALL, ...fields].map(row => [row[0], fieldOf(row)])) }
+    byName.set(name, known)
+    byNumber.set(number, known)
 }
+
+/* What the profile says of the fields of a message, by their numbers. */
+export const fieldsOf = number => byNumber.get(number)?.fields ?? ANY
+
+/* The names of all messages of the profile. */
+export const messageNames = () => byName.keys()
+export const nameOf = number => byNumber.get(number)?.name ?? null
+
+/* The number of a message that is named by its name or its number; undefined where nothing names it. */
+export const numberOf = (kind, names) => (typeof kind === "number" ? kind : names?.messages.get(kind) ?? byName.get(kind)?.number)
 
 /* A name that neither the profile nor the file has; `nearest` is the one that is most like it, or null. */
 export class UnknownName extends RangeError {
@@ -70,13 +56,14 @@ export function nearestOf(name, others) {
     return nearest
 }
 
-/* Throws UnknownName for a name of a message that the profile hasn't. Numbers are good. */
-export function seeMessage(kind) {
-    if (typeof kind === "string" && !Object.hasOwn(PROFILE, kind)) throw new UnknownName("no message is named", kind, Object.keys(PROFILE))
+/* Throws UnknownName for a name of a message that neither the profile nor the caller has. Numbers are good. */
+export function seeMessage(kind, names) {
+    if (typeof kind === "string" && numberOf(kind, names) === undefined)
+        throw new UnknownName("no message is named", kind, [...byName.keys(), ...(names?.messages.keys() ?? [])])
 }
 
-/* The names that the profile has for the fields of a message, which is named or numbered. */
-export function fieldsOf(kind) {
-    const found = Object.entries(PROFILE).find(([name, [number]]) => kind === name || kind === number)
-    return ["timestamp", ...(found === undefined ? [] : found[1][1])]
+/* The names that the profile, and the caller, have for the fields of a message, which is named or numbered. */
+export function namesOf(kind, names) {
+    const number = numberOf(kind, names), told = [...fieldsOf(number).values(), ...(names?.fields(number).values() ?? [])]
+    return told.map(({ name }) => name).filter(name => name !== null)
 }

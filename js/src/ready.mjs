@@ -1,14 +1,7 @@
 /* Values that are ready to use: times as Dates, places in degrees, words, several numbers one by one, bytes as text. */
-import { FLOAT, SIGNED, UNSIGNED } from "./numbers.mjs"
+import { FLOAT, SIGNED } from "./numbers.mjs"
 import { degrees, hex, when } from "./plain.mjs"
 import { wordOf } from "./words.mjs"
-
-const TIMES = { 0: [4], 18: [2], 19: [2] } // fields of the profile that are times, beside the timestamp
-const LOCAL = { 34: 5 } // and one by the clock of the place
-
-const isLone = entry => entry.index === null && entry.kind === UNSIGNED && entry.width === 4 && entry.count === 1
-const isTime = ({ number }, entry) => isLone(entry) && (entry.number === 253 || (TIMES[number] ?? []).includes(entry.number))
-const isLocal = ({ number }, entry) => isLone(entry) && LOCAL[number] === entry.number
 
 /* Whether a field has places in semicircles. */
 export const isPlace = entry => entry.unit === "semicircles" && entry.kind === SIGNED && entry.width === 4 && entry.scale === 1 && entry.offset === 0
@@ -31,8 +24,8 @@ const textOf = word => (word === null ? null : String(word))
 /* The value of a field in a message, whose block begins at a place. */
 function valueOf(definition, entry, part, at) {
     const value = entry.read(part, at)
-    if (isTime(definition, entry)) return dateOf(value)
-    if (isLocal(definition, entry)) return dateOf(value)?.toISOString().slice(0, 19) ?? null
+    if (entry.type === "local_date_time") return dateOf(value)?.toISOString().slice(0, 19) ?? null
+    if (entry.type !== null) return dateOf(value)
     if (isPlace(entry)) return Array.isArray(value) ? value.map(one => (one === null ? null : degrees(one))) : value === null ? null : degrees(value)
     if (entry.isWord) return Array.isArray(value) ? value.map(textOf) : textOf(value)
     const word = wordOf(definition, entry, part, at)
@@ -57,16 +50,15 @@ export function readyOf(definition, part, at, seconds) {
     return found
 }
 
-/* The columns that a field of the messages of a definition has, each with its label and what it takes of a message: several numbers one by one,
+/* The columns that a field has, each with its label and what it takes of a message: several numbers one by one,
  * places in degrees, times as milliseconds since 1970, and words, texts and bytes as texts. */
-export function readyColumns(definition, label, entry) {
+export function readyColumns(label, entry) {
     if (entry.kind > FLOAT || entry.isWord) {
         const told = (part, at) => (Array.isArray(entry.read(part, at)) ? entry.read(part, at).map(textOf) : textOf(plain(entry.read(part, at))))
         if (!entry.isWord || entry.count === 1) return [[label, { ...entry, isNumber: false, read: told }]]
         return Array.from({ length: entry.count }, (_, k) => [`${label}_${k}`, { ...entry, isNumber: false, read: (part, at) => told(part, at)[k] }])
     }
-    const own = { ...entry, isNumber: true, count: 1, factor: isPlace(entry) ? degrees(1) : entry.factor, isTime: isTime(definition, entry) }
-    if (isLocal(definition, entry)) own.isTime = true
+    const own = { ...entry, isNumber: true, count: 1, factor: isPlace(entry) ? degrees(1) : entry.factor, isTime: entry.type !== null }
     if (entry.count <= 1) return [[label, own]]
     return Array.from({ length: entry.count }, (_, k) => [`${label}_${k}`, { ...own, begins: entry.begins + k * entry.width }])
 }

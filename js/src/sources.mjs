@@ -34,3 +34,28 @@ export const PIECE = 1 << 18
 export function* pieces(bytes) {
     for (let at = 0; at < bytes.length; at += PIECE) yield bytes.subarray(at, at + PIECE)
 }
+
+const PART = 128, LEAST = 1 << 11
+
+/* The same for what is made of them as blocks, which may be 180 times as long: a piece is that part of all. */
+export function* smallPieces(bytes) {
+    const size = Math.min(PIECE, Math.max(LEAST, Math.ceil(bytes.length / PART)))
+    for (let at = 0; at < bytes.length; at += size) yield bytes.subarray(at, at + size)
+}
+
+const MOST = 1 << 14
+
+/* The files of a good chain, one after another, and short ones together, up to so many bytes. */
+export function* filesOf(bytes) {
+    const view = new DataView(bytes.buffer, bytes.byteOffset, bytes.byteLength)
+    let begin = 0
+    for (let at = 0; at < bytes.length;) {
+        const end = at + bytes[at] + view.getUint32(at + 4, true) + 2 // header, data section and checksum
+        if (at > begin && end - begin > MOST) {
+            yield bytes.subarray(begin, at)
+            begin = at
+        }
+        at = end
+    }
+    if (begin < bytes.length) yield bytes.subarray(begin)
+}

@@ -2,6 +2,7 @@
 import { FitError, OutOfMemory, judge } from "./answers.mjs"
 import { copied, decoded } from "./core.mjs"
 import { Walk } from "./messages.mjs"
+import { seeNames } from "./names.mjs"
 import { STREAM_CHECK, STREAM_MESSAGES, STREAM_SHOW, STREAM_TABLE, STREAM_TO_CSV } from "./numbers.mjs"
 import { bytesOf } from "./sources.mjs"
 
@@ -39,10 +40,10 @@ export class Pipe {
 }
 
 /* What makes a kind's result of the bytes of the library, where they lie. */
-function maker(kind, only, words) {
+function maker(kind, only, told) {
     if (kind === "blocks") return copied
     if (kind !== "messages") return decoded
-    const walk = new Walk(only, words)
+    const walk = new Walk(only, told)
     return bytes => walk.messages(bytes)
 }
 
@@ -56,13 +57,14 @@ export class Stream {
     #fault = null
     #files = 0
 
-    constructor(gazhdor, kind, { only, words = false } = {}) {
+    constructor(gazhdor, kind, { only, words = false, names } = {}) {
         if (!Object.hasOwn(KINDS, kind)) throw new TypeError(`a stream is one of ${Object.keys(KINDS).join(", ")}, and not ${String(kind)}`)
         if (only !== undefined && kind !== "messages") throw new TypeError(`a stream of ${kind} has no messages of which there may be only some`)
         if (words && kind !== "messages") throw new TypeError(`a stream of ${kind} has no messages whose numbers may be words`)
+        if (names !== undefined && kind !== "messages") throw new TypeError(`a stream of ${kind} has no messages whose fields may have names`)
         const core = coreOf.get(gazhdor)
         if (core === undefined) throw new TypeError("a stream is of what `open` gives")
-        this.#make = maker(kind, only, words)
+        this.#make = maker(kind, only, { words, names: seeNames(names) })
         this.#pipe = new Pipe(core, kind)
     }
 
@@ -160,15 +162,15 @@ function readable(between, stream) {
 }
 
 /* A pair of streams for `pipeThrough`, as a TransformStream is: bytes go in, and come out as the messages, the texts or the blocks that they
- * make. A stream of "check" lets the bytes through. At a fault all that came before it comes out first; the end that is written fails at
+ * make. A stream that `passes` lets the bytes through. At a fault all that came before it comes out first; the end that is written fails at
  * once, so that no more is sent. */
-export function transform(gazhdor, kind, options) {
-    const stream = new Stream(gazhdor, kind, options), between = new Between()
+export function transform(stream, passes = false) {
+    const between = new Between()
     const step = async (make, passed) => {
         if (between.fault !== undefined) throw between.fault
         try {
             const made = make()
-            between.ready.push(...items(kind === "check" ? passed : made))
+            between.ready.push(...items(passes ? passed : made))
         } catch (fault) {
             for (const item of items(fault.before ?? [])) between.ready.push(item)
             between.end(fault)

@@ -1,11 +1,14 @@
 /* What the items of a field stand for, and the field as its definition has it: an entry of docs/BLOCKS.md. */
 
+import { codeOf, invalidOf, numberAt } from "./items.mjs"
 import {
-    AT_DEFINITION_BITS, AT_DEFINITION_DEVELOPERS, AT_DEFINITION_FIELDS, AT_DEFINITION_MESSAGE, AT_DEFINITION_NAME,
+    AT_DEFINITION_BITS, AT_DEFINITION_DEVELOPERS, AT_DEFINITION_FIELDS, AT_DEFINITION_MESSAGE, AT_DEFINITION_MESSAGE_LENGTH, AT_DEFINITION_NAME,
     AT_ENTRY_BASE_TYPE, AT_ENTRY_COUNT, AT_ENTRY_DECIMALS, AT_ENTRY_DEVELOPER, AT_ENTRY_INDEX, AT_ENTRY_INVALID,
     AT_ENTRY_ITEMS, AT_ENTRY_KIND, AT_ENTRY_LENGTH, AT_ENTRY_NAME, AT_ENTRY_NUMBER, AT_ENTRY_OFFSET, AT_ENTRY_SCALE,
-    AT_ENTRY_UNIT, AT_ENTRY_WIDTH, BYTES, FLOAT, IS_COUNTED, SIGNED, STRING,
+    AT_ENTRY_UNIT, AT_ENTRY_WIDTH, BYTES, FLOAT, IS_COUNTED, SIGNED, STRING, UNSIGNED,
 } from "./numbers.mjs"
+import { RESERVED, fieldsIn, isTimeType } from "./names.mjs"
+import { fieldsOf } from "./profile.mjs"
 import { tellWords } from "./words.mjs"
 
 const utf8 = new TextDecoder("utf-8", { ignoreBOM: true })
@@ -32,7 +35,7 @@ export function scaler(entry) {
     const { scale, offset } = entry, shift = scale * offset
     if (scale === 1 && offset === 0) return entry.kind === FLOAT || entry.width < 8 ? item => item : whole
     if (entry.kind === FLOAT) return item => item / scale - offset
-    if (entry.width < 8) return item => (item - shift) / scale
+    if (entry.width < 8 || !Number.isInteger(scale) || !Number.isInteger(offset)) return item => (Number(item) - shift) / scale
     return item => (scale === 1 ? whole(item - BigInt(offset)) : quotient(item - BigInt(shift), BigInt(scale)))
 }
 
@@ -55,10 +58,18 @@ function bitsReader(width) {
     }[width]
 }
 
+/* How many decimals a number of this scale has at most; -1 where it may have ever more. */
+function decimalsOf(scale, offset) {
+    if (!Number.isSafeInteger(scale) || !Number.isSafeInteger(offset)) return -1
+    for (let count = 0, ten = 1n; count < 64; count++, ten *= 10n) if (ten % BigInt(scale) === 0n) return count
+    return -1
+}
+
 /* What a definition says of a field: its name and unit, its number, and where and how its items stand in a message's block. `index` is the
- * developer data index of a developer field, else null. */
+ * developer data index of a developer field, else null; `type` is "date_time" or "local_date_time" of a number that is such a time, else null.
+ * What `named` says of it goes before what the block says. */
 export class Entry {
-    constructor(view, bytes, at) {
+    constructor(view, bytes, at, named = null, type = null) {
         const size = view.getUint16(at + AT_ENTRY_LENGTH, true)
         this.number = bytes[at + AT_ENTRY_NUMBER]
         this.index = bytes[at + AT_ENTRY_DEVELOPER] === 1 ? bytes[at + AT_ENTRY_INDEX] : null
@@ -75,11 +86,25 @@ export class Entry {
         this.name = textAt(bytes, at + AT_ENTRY_NAME)
         this.unit = textAt(bytes, at + view.getUint16(at + AT_ENTRY_UNIT, true))
         this.size = size
+        if (named !== null) this.#rename(named)
+        const isNumber = this.kind === UNSIGNED && this.width === 4 && this.count === 1 && this.index === null
+        this.told = named?.type ?? null // the type that the caller says
+        this.type = isNumber && isTimeType(this.told ?? type) ? this.told ?? type : null
         this.bits = bitsReader(this.width)
         this.item = itemReader(this)
         this.scaled = scaler(this)
         this.read = reader(this)
         this.isWord = false
+    }
+
+    #rename({ name, unit, scale, offset }) {
+        this.name = name ?? this.name
+        this.unit = unit === null ? this.unit : unit || null
+        // Floats stand for themselves, as in the profile.
+        if (this.kind > SIGNED || (scale === null && offset === null)) return
+        this.scale = scale ?? this.scale
+        this.offset = offset ?? this.offset
+        this.decimals = decimalsOf(this.scale, this.offset)
     }
 
     /* Whether its value is one number, and not several, a text, bytes or a word. */
@@ -99,9 +124,25 @@ function reader(entry) {
             const data = bytes.slice(at + begins, at + begins + count)
             return invalid === 0xff && data.every(byte => byte === 0xff) ? null : data
         }
+    if (entry.kind <= SIGNED && width < 8) return narrowReader(entry)
     const one = (view, at) => (entry.bits(view, at) === invalid ? null : entry.scaled(entry.item(view, at)))
     if (count === 1) return ({ view }, at) => one(view, at + begins)
     return ({ view }, at) => Array.from({ length: count }, (_, k) => one(view, at + begins + k * width))
+}
+
+/* The same for whole numbers of less than eight bytes. */
+function narrowReader(entry) {
+    const { begins, count, width, scale } = entry, code = codeOf(entry), invalid = invalidOf(entry), shift = scale * entry.offset
+    const one = (view, at) => {
+        const item = numberAt(view, code, invalid, at)
+        return Number.isNaN(item) ? null : (item - shift) / scale
+    }
+    if (count === 1) return ({ view }, at) => one(view, at + begins)
+    return ({ view }, at) => {
+        const found = new Array(count) // of a list that grows the engine keeps more room
+        for (let k = 0, place = at + begins; k < count; k++, place += width) found[k] = one(view, place)
+        return found
+    }
 }
 
 /* The items as the file has them, of floats their bits; all bytes of a text or of bytes. */
@@ -115,8 +156,9 @@ export function rawOf(entry, { view, bytes }, at) {
     return entry.count === 1 ? items[0] : items
 }
 
-/* A whole number in the unit of its field, as text with the decimals that its scale needs. */
+/* A whole number in the unit of its field, as text with the decimals that its scale needs; where it may have ever more, with those of the number. */
 function decimal(entry, item) {
+    if (entry.decimals < 0) return String(entry.scaled(item))
     const ten = 10n ** BigInt(entry.decimals), scale = BigInt(entry.scale)
     const number = (BigInt(item) - scale * BigInt(entry.offset)) * ten / scale
     const digits = String(number < 0n ? -number : number).padStart(entry.decimals + 1, "0"), point = digits.length - entry.decimals
@@ -131,9 +173,6 @@ export function exactOf(entry, part, at) {
     return Array.isArray(value) ? value.map((one, k) => exact(one, raw[k])) : exact(value, raw)
 }
 
-/* What is kept for attributes of a message, for its time, and for what has no name. */
-const RESERVED = /^(\.|(timestamp|field_\d+|dev_\d+_\d+|message_\d+)$)/
-
 /* Where the first field is described in the block of a definition, after the name of its message. */
 export function firstEntry(bytes, at = 0) {
     const name = at + AT_DEFINITION_NAME
@@ -141,18 +180,23 @@ export function firstEntry(bytes, at = 0) {
 }
 
 /* What the messages of a definition have: the number and name of the message, and its fields, each by its keys. With `words` values are words
- * where there are such. */
+ * where there are such; `names` are those of the caller. */
 export class Definition {
-    constructor(bytes, words = false) {
+    constructor(bytes, told = {}) {
+        const { words = false, names = null } = told
+        this.block = bytes.slice()
+        this.told = told
         const view = new DataView(bytes.buffer, bytes.byteOffset, bytes.byteLength)
         const count = view.getUint16(AT_DEFINITION_FIELDS, true) + view.getUint16(AT_DEFINITION_DEVELOPERS, true)
         this.number = view.getUint16(AT_DEFINITION_MESSAGE, true)
+        this.messageLength = view.getUint32(AT_DEFINITION_MESSAGE_LENGTH, true)
         this.isCounted = (view.getUint16(AT_DEFINITION_BITS, true) & IS_COUNTED) !== 0
-        this.name = textAt(bytes, AT_DEFINITION_NAME)
+        this.name = names?.message(this.number) ?? textAt(bytes, AT_DEFINITION_NAME)
         this.entries = []
-        let at = firstEntry(bytes)
-        for (let k = 0; k < count; k++) {
-            this.entries.push(new Entry(view, bytes, at))
+        const fields = fieldsOf(this.number), own = fieldsIn(names, this.number)
+        for (let k = 0, at = firstEntry(bytes); k < count; k++) {
+            const number = bytes[at + AT_ENTRY_DEVELOPER] === 1 ? null : bytes[at + AT_ENTRY_NUMBER]
+            this.entries.push(new Entry(view, bytes, at, own.get(number) ?? null, fields.get(number)?.type ?? null))
             at += this.entries[k].size
         }
         this.byName = new Map()
@@ -190,3 +234,6 @@ export function labelOf(key) {
     if (Array.isArray(key) && key.length === 2) return `dev_${key[0]}_${key[1]}`
     throw new TypeError("a field is named by its name, its number, or [developer data index, number]")
 }
+
+/* Bytes that blocks are read from. */
+export const partOf = bytes => ({ bytes, view: new DataView(bytes.buffer, bytes.byteOffset, bytes.byteLength) })

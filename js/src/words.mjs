@@ -10,12 +10,13 @@ export function words(type) {
 }
 
 /* Whether a field may have words: of whole numbers that aren't scaled, and no developer field. */
-const mayHave = entry => entry.index === null && entry.kind <= SIGNED && entry.scale === 1 && entry.offset === 0
+const mayHave = entry => entry.index === null && entry.kind <= SIGNED && entry.scale === 1 && entry.offset === 0 && entry.type === null
 
 /* The words of a field of a definition: where another field has a number, as the manufacturer 1, those of that case, and else `words`. It is
  * undefined where the field has none. */
-function choiceOf(definition, entry) {
+export function choiceOf(definition, entry) {
     if (!mayHave(entry)) return undefined
+    if (entry.told !== null) return Object.hasOwn(WORDS, entry.told) ? { known: WORDS[entry.told], cases: [] } : undefined
     const known = WORDS[TYPES[definition.number]?.[entry.number]]
     const cases = (SUBFIELDS[definition.number]?.[entry.number] ?? [])
         .map(([number, has, type]) => ({ of: definition.byNumbers.get(`field_${number}`), has, known: WORDS[type] }))

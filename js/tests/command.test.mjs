@@ -73,8 +73,10 @@ test("each command has its help", () => {
 
 test("words that aren't understood", () => {
     const cases = [[[], "--help"], [["frob"], "no command 'frob'"], [["check", "--frob"], "--frob"], [["mend", "a", "b", "c"], "IN"],
-        [["table", "-o"], "-o"], [["gpx", PATH], "isn't in the command for Node yet"], [["edit"], "isn't in the command for Node yet"],
-        [["json", "--names=a"], "--names isn't in"], [["mend", "--whole"], "--whole isn't in"]]
+        [["table", "-o"], "-o"], [["edit", "a"], "it takes IN and OUT"], [["join", "a", "b"], "two FILEs or more"],
+        [["edit", "--shift", "soon", PATH, "x"], "no time to move by"],
+        [["edit", "--shift=5m1h", PATH, "x"], "come in this order"], [["edit", "--from", "2026-05-17T07:30:00", PATH, "x"], "a time needs a zone"],
+        [["json", "--names=a"], "--names: a: No such file or directory"], [["json", `--names=${PATH}`], "--names: the first line"]]
     for (const [words, part] of cases) {
         const { status, said, faults } = command(words)
         assert.deepEqual([status, said], [2, ""], words.join(" "))
@@ -214,12 +216,13 @@ test("the command of Python says the same", needs("python3"), async () => {
     const paths = Object.entries(await allFiles()).map(([name, data]) => written(`all/${name}`, data))
     const env = { ...process.env, PYTHONPATH: inTree("python") }
     const python = words => spawnSync(program("python3"), ["-m", "gazhdor", ...words], { env, maxBuffer: 2 ** 28 })
-    for (const words of [["check"], ["table"], ["to-csv"], ["show"], ["check", "--json"]]) {
+    for (const words of [["check"], ["table"], ["to-csv"], ["show"], ["gpx"], ["check", "--json"]]) {
         const { status, said, faults } = command([...words, ...paths], "", { maxBuffer: 2 ** 28 }), other = python([...words, ...paths])
         const plain = words[1] === "--json" ? text => text.trim().split("\n").map(JSON.parse) : text => text
         assert.deepEqual([status, plain(said), faults], [other.status, plain(`${other.stdout}`), `${other.stderr}`], words.join(" "))
     }
-    for (const more of [[], ["--numbers"], ["--ready"]]) {
+    const tsv = written("own.tsv", "message\tmessage name\tfield\tfield name\tunit\tscale\toffset\ttype\nrecord\t\t3\tpulse\t1/min\t7\n140\tphysiology\n")
+    for (const more of [[], ["--numbers"], ["--ready"], ["--extra"], ["--names", tsv, "--extra", "--numbers"], ["--extra", "--ready"]]) {
         const lines = said => `${said}`.trim().split("\n")
         const [own, other] = [command(["json", ...more, ...paths], "", { maxBuffer: 2 ** 28 }).said, python(["json", ...more, ...paths]).stdout].map(lines)
         assert.equal(own.length, other.length)

@@ -1,10 +1,10 @@
 /* What is marked, zoomed, pointed at and kept on docs/ride.html, and two rides beside each other. */
 import assert from "node:assert/strict"
-import { readFileSync } from "node:fs"
+import { existsSync, readFileSync, rmSync } from "node:fs"
 import { join } from "node:path"
 import { test } from "node:test"
 import { click, gazhdor, handed, how, laid, pageWith, place, press, saved, seeQuiet, texts } from "./page_tools.mjs"
-import { run, spike, toAndFro, triathlon } from "./rides.mjs"
+import { BEGIN, run, spike, toAndFro, triathlon } from "./rides.mjs"
 import { RIDE } from "./tools.mjs"
 
 const CHARTS = ["speed", "heart_rate", "cadence"]
@@ -40,6 +40,8 @@ async function seeLap() {
     }
     assert.ok(await page.value("document.querySelector('#track .lit').getAttribute('d').length > 100"))
     assert.deepEqual(await texts(page, "#laps tr.lit th"), ["2"])
+    const told = bytes => [...gazhdor.messages(bytes, { only: "lap" })].map(message => ({ ...message.toObject() }))
+    assert.deepEqual(told(await part(page, "run-part.fit")).filter(({ start_time: start }) => start === BEGIN + 250), [told(run(gazhdor))[1]])
     await press(page, "Zoom in")
     assert.deepEqual((await texts(page, "#cadence svg text")).filter(text => /^\d:\d\d/.test(text)), ["0:05", "0:06", "0:07", "0:08"])
     await press(page, "Whole ride")
@@ -47,6 +49,19 @@ async function seeLap() {
     assert.ok(await page.value("document.querySelector('#marked').hidden"))
     assert.equal(await page.value("document.querySelectorAll('.lit[visibility=visible], tr.lit').length"), 0)
     seeQuiet(page)
+}
+
+/* What is marked, saved as a FIT file. */
+async function part(page, name) {
+    await page.value("document.querySelector('#saved').textContent = ''")
+    await press(page, "Save as FIT file")
+    await page.until("document.querySelector('#saved').textContent !== ''")
+    assert.ok((await page.text("#saved")).startsWith(`${name}: `), await page.text("#saved"))
+    for (let k = 0; k < 100 && !existsSync(join(place, name)); k++) await new Promise(wait => setTimeout(wait, 50))
+    const bytes = readFileSync(join(place, name))
+    rmSync(join(place, name))
+    assert.ok(gazhdor.check(bytes).good)
+    return bytes
 }
 
 async function seeDragged() {
@@ -61,6 +76,8 @@ async function seeDragged() {
     await new Promise(wait => setTimeout(wait, 300))
     const points = String(readFileSync(join(place, "run-part.gpx"))).match(/<trkpt /g).length
     assert.equal(points - 1, 60 * told[2] + Number(told[3]))
+    const records = [...gazhdor.messages(await part(page, "run-part.fit"), { only: "record" })]
+    assert.deepEqual([records.length, records[0].distance], [points, 0])
     await press(page, "distance") // what is marked stays
     assert.match(await words(page, "#marked"), new RegExp(`^Marked part ${told[1]} km`))
     seeQuiet(page)

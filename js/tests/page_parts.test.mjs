@@ -7,8 +7,6 @@ import { test } from "node:test"
 import { open } from "../gazhdor.mjs"
 import { boundsOf, powerCurve, secondsOf, zoneTimes } from "../ride/efforts.mjs"
 import { exampleRide } from "../ride/example.mjs"
-import { gpxOf } from "../ride/gpx.mjs"
-import { emptyPlaces } from "../ride/places.mjs"
 import { MOST_DEVELOPERS, MOST_POINTS } from "../ride/points.mjs"
 import { memoryOf, rideOf } from "../ride/reading.mjs"
 import { MOST_DRAWN, across, shownRange, thinned } from "../ride/scales.mjs"
@@ -128,12 +126,12 @@ async function seePython() {
     const files = [RIDE, mixed, developer(gazhdor), paused(gazhdor), RIDE.subarray(0, 2000), ...(recorded ? [recorded] : [])]
     const paths = files.map((bytes, k) => join(place, `${k}.fit`))
     paths.forEach((path, k) => writeFileSync(path, files[k]))
-    assert.equal(files.map(bytes => Buffer.from(gpxOf(gazhdor, bytes))).join(""), String(python("gpx", ...paths).stdout))
-    assert.equal(String(Buffer.from(gpxOf(gazhdor, files[3]))).match(/<\/trkseg><trkseg>/g).length, 1) // the timer was stopped once
+    assert.equal(files.map(bytes => gazhdor.gpx(bytes, { partial: true })).join(""), String(python("gpx", ...paths).stdout))
+    assert.equal(gazhdor.gpx(files[3]).match(/<\/trkseg><trkseg>/g).length, 1) // the timer was stopped once
     for (const k of [0, 1, 2, 5].filter(one => one < files.length)) {
         const edited = python("edit", "--drop", "position", paths[k], join(place, "out.fit"))
         assert.equal(edited.status, 0, `${k}: ${edited.stderr}`)
-        assert.deepEqual(Buffer.from(gazhdor.fromBlocks(emptyPlaces(gazhdor.blocks(files[k])))), readFileSync(join(place, "out.fit")), `${k}`)
+        assert.deepEqual(Buffer.from(gazhdor.edit(files[k], { drop: ["position"] }).bytes), readFileSync(join(place, "out.fit")), `${k}`)
     }
 }
 

@@ -5,30 +5,11 @@ import { test } from "node:test"
 import { Worker } from "node:worker_threads"
 
 import { open, when } from "../gazhdor.mjs"
+import { file, le } from "./bytes.mjs"
 import { RIDE } from "./tools.mjs"
 
 const gazhdor = await open()
 const TIME = 1147937400, START = new Date(Date.UTC(2026, 4, 17, 7, 30))
-
-/* A number as bytes, the least first. */
-const le = (number, width) => Array.from({ length: width }, (_, k) => Math.floor(number / 256 ** k) % 256)
-
-/* The checksum of the FIT protocol, as its own words have it. */
-function sum(bytes) {
-    let total = 0
-    for (const byte of bytes) {
-        total ^= byte
-        for (let bit = 0; bit < 8; bit++) total = total & 1 ? (total >> 1) ^ 0xA001 : total >> 1
-    }
-    return le(total, 2)
-}
-
-/* A file of one definition, whose fields are [number, size, base type]. */
-function file(number, fields, ...rows) {
-    const data = [0x40, 0, 0, ...le(number, 2), fields.length, ...fields.flat(), ...rows.flatMap(row => [0, ...row])]
-    const bytes = [12, 32, ...le(2132, 2), ...le(data.length, 4), ...Buffer.from(".FIT"), ...data]
-    return new Uint8Array([...bytes, ...sum(bytes)])
-}
 
 test("values that are ready to use", () => {
     const fields = [[253, 4, 0x86], [2, 4, 0x86], [3, 4, 0x85], [5, 1, 0], [6, 1, 0], [9, 4, 0x86], [200, 2, 13], [201, 6, 0x84], [110, 4, 7], [202, 4, 0x88]]

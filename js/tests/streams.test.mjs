@@ -1,6 +1,8 @@
 /* What streams of the wrapper must do, and the Worker. */
 import assert from "node:assert/strict"
 import { once } from "node:events"
+import { Readable, Writable } from "node:stream"
+import { pipeline } from "node:stream/promises"
 import { test } from "node:test"
 import { setFlagsFromString } from "node:v8"
 import { runInNewContext } from "node:vm"
@@ -194,4 +196,16 @@ test("the Worker", async () => {
     assert.ok(gazhdor.check(mended).good)
     assert.deepEqual([blocks, again, cut.name, cut.reason], [gazhdor.blocks(RIDE), RIDE, "BlocksRefused", "Cut"])
     assert.deepEqual([fault.name, fault.place, fault.text, none.name, five.name], ["Truncated", 2500, "truncated at byte 2500", "TypeError", "TypeError"])
+})
+
+test("GPX as it comes, from streams of Node and into them", async () => {
+    const pieces = cut(RIDE, [1, 100, 2000]), into = []
+    const made = Readable.toWeb(Readable.from(pieces)).pipeThrough(gazhdor.stream("gpx"))
+    await pipeline(Readable.fromWeb(made), new Writable({ write: (part, _, done) => (into.push(String(part)), done()) }))
+    assert.equal(into.join(""), gazhdor.gpx(RIDE))
+    const found = []
+    const short = source(cut(RIDE.subarray(0, 2000), [1000])).pipeThrough(gazhdor.stream("gpx"))
+    await assert.rejects(async () => { for await (const part of short) found.push(part) }, Truncated)
+    assert.equal(found.join(""), gazhdor.gpx(RIDE.subarray(0, 2000), { partial: true }))
+    assert.throws(() => gazhdor.gpx(RIDE.subarray(0, 2000)), Truncated)
 })

@@ -17,6 +17,17 @@ export const inTree = name => join(TREE, name)
 export const MODULE = readFileSync(inTree("js/gazhdor.wasm"))
 export const RIDE = bytesAt(inTree("examples/ride.fit"))
 
+/* Rows of the text of a file: its header, and the definition of messages that describe developer fields. */
+export const ROWS = `row,a,b,c,d,e,f
+file,14,32,2065,sum,,
+def,0,0,little,206,5,
+fdef,0,1,2,,,
+fdef,1,1,2,,,
+fdef,2,1,2,,,
+fdef,3,16,7,,,
+fdef,8,8,7,,,
+`
+
 export function bytesAt(path) {
     return new Uint8Array(readFileSync(path))
 }

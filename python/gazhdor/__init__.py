@@ -17,8 +17,8 @@
     with gazhdor.Writer("new.fit") as out:                                          # a file of values
         out.write("record", timestamp=start, heart_rate=120)
 
-Each call hands the bytes of the file to the proved library of Gazhdor. The library lets other threads run meanwhile. A
-file object is read from where it is to its end, or to a fault, and stays open.
+Each call hands the bytes of the file to the proved library of Gazhdor. This lets other threads run meanwhile, but for
+the calls of a writer. A file object is read from where it is to its end, or to a fault, and stays open.
 
 All calls but `check` raise `Refused` or `Truncated` where the bytes are no FIT file. Each raises MemoryError where
 memory is refused, `ReadFailed` where a read fails, `NotBinary` where a file object gives text, and OSError where a path

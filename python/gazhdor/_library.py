@@ -29,6 +29,12 @@ class _Stream(ctypes.Structure):
     _fields_ = [("at", ctypes.c_void_p)]
 
 
+class WriterBox(ctypes.Structure):
+    """What is held of a writer of the library."""
+
+    _fields_ = [("at", ctypes.c_void_p)]
+
+
 def packed(name: str) -> Optional[bytes]:
     """The bytes of a file beside this module, which may be in a folder or a zip file; None where it isn't there."""
     try:
@@ -104,12 +110,26 @@ def _load(version: str) -> ctypes.CDLL:
         library.gazhdor_feed.restype = Answer
         library.gazhdor_finish.argtypes, library.gazhdor_finish.restype = (stream, text), Answer
         library.gazhdor_close.argtypes, library.gazhdor_close.restype = (stream,), None
+        _load_writer(ctypes.PyDLL(path, handle=library._handle))
     except AttributeError as error:
         raise LibraryUnusable(f"{path} isn't a library of gazhdor {version}: {error}", path) from None
     told = library.gazhdor_version().decode()
     if told != version:
         raise WrongVersion(f"{path} is version {told}, and the module gazhdor is version {version}", path)
     return library
+
+
+# The calls of a writer, while which no other thread runs, nor can the process be forked: no call comes within another.
+writer_calls: dict[str, Any] = {}
+
+
+def _load_writer(library: ctypes.PyDLL) -> None:
+    box, bytes_ = ctypes.POINTER(WriterBox), (ctypes.c_void_p, ctypes.c_size_t)
+    given: dict[str, tuple[Any, ...]] = {"open": (), "close": (), "file": bytes_, "definition": bytes_}
+    given.update(messages=(*bytes_, *bytes_), finish=(ctypes.POINTER(_Text),))
+    for name, types in given.items():
+        call = writer_calls[name] = getattr(library, f"gazhdor_writer_{name}")
+        call.argtypes, call.restype = (box, *types), None if name == "close" else Answer
 
 
 def _version() -> str:
@@ -160,13 +180,18 @@ class _Owner:
     __slots__ = ("__weakref__",)
 
 
-def text_of(call: Any, data: bytes) -> tuple[Answer, bytes]:
-    """The answer of a call, and what it makes of some bytes. The library's memory is freed also where an exception
-    comes."""
-    data, text, owner = exact(data), _no_text(), _Owner()
+def made_by(call: Any, *given: Any) -> tuple[Answer, bytes]:
+    """The answer of a call, and what it makes. The library's memory is freed also where an exception comes."""
+    text, owner = _no_text(), _Owner()
     weakref.finalize(owner, library.gazhdor_free, text).atexit = False
-    answer: Answer = call(data, len(data), ctypes.byref(text))
+    answer: Answer = call(*given, ctypes.byref(text))
     return answer, _copied(text)
+
+
+def text_of(call: Any, data: bytes) -> tuple[Answer, bytes]:
+    """The answer of a call, and what it makes of some bytes."""
+    data = exact(data)
+    return made_by(call, data, len(data))
 
 
 def _close(stream: _Stream, text: _Text, callers: list[int]) -> None:

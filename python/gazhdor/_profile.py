@@ -61,6 +61,11 @@ def _by_number() -> dict[int, Known]:
     return {known.number: known for known in profile().values()}
 
 
+@functools.lru_cache(None)
+def _names() -> dict[int, str]:
+    return {known.number: name for name, known in profile().items()}
+
+
 def fields_of(number: int) -> dict[str, int]:
     """The fields that the profile names in a message: their numbers by their names."""
     known = _by_number().get(number)
@@ -69,7 +74,7 @@ def fields_of(number: int) -> dict[str, int]:
 
 def name_of(number: int) -> Optional[str]:
     """The name of a message, or None."""
-    return next((name for name, known in profile().items() if known.number == number), None)
+    return _names().get(number)
 
 
 def info_of(message: int, field: int) -> Optional[Info]:

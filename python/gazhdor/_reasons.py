@@ -30,4 +30,10 @@ BLOCK_REASONS = (
     ("Offset", "has a time offset of 32 to 254"),
     ("Undefined", "is a message whose local message type isn't defined"),
     ("Items", "is a message that ends before the items of its fields do"),
+    ("NoFile", "comes before a file has begun"),
+    ("Files", "begins one file more than a chain may have"),
+    ("Full", "is a message of 255 fields that needs a timestamp"),
+    ("Time", "is a message that needs a timestamp, and whose time is the number that stands for none"),
+    ("Described", "is a message of which a developer field has another base type, name or unit in this file, or none"),
+    ("TooLong", "would make the data of its file longer than a file may have"),
 )

@@ -2,6 +2,8 @@
 that they say, or the first block that can't stand where it is, its place, and the reason."""
 import struct
 
+from fits import checksum
+
 from gazhdor import _numbers as n
 
 CUT, KIND, HEADER, LOCAL, ARCHITECTURE, ENTRIES, SIZE, OFFSET, UNDEFINED, ITEMS = range(1, 11)
@@ -25,15 +27,6 @@ def need(condition, reason):
 
 def number(block, at, width):
     return int.from_bytes(block[at : at + width], "little")
-
-
-def checksum(data):
-    total = 0
-    for byte in data:
-        total ^= byte
-        for _ in range(8):
-            total = total >> 1 ^ (0xA001 if total & 1 else 0)
-    return struct.pack("<H", total)
 
 
 def cut(blocks, at):
@@ -72,7 +65,8 @@ class File:
         self.definitions = {}
         self.codes = {}
 
-    def entries(self, block):
+    @staticmethod
+    def entries(block):
         """The entries of a definition, those of the fields first."""
         fields, developers = number(block, n.AT_DEFINITION_FIELDS, 2), number(block, n.AT_DEFINITION_DEVELOPERS, 2)
         name = n.AT_DEFINITION_NAME

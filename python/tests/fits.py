@@ -22,12 +22,19 @@ TYPES.update({0x88: (4, 2**32 - 1, "f"), 0x89: (8, 2**64 - 1, "f"), 0x8B: (2, 0,
 TYPES.update({0x8E: (8, 2**63 - 1, "s"), 0x8F: (8, 2**64 - 1, "u"), 0x90: (8, 0, "u")})
 
 
+def shifted(byte):
+    for _ in range(8):
+        byte = byte >> 1 ^ (0xA001 if byte & 1 else 0)
+    return byte
+
+
+SHIFTED = [shifted(byte) for byte in range(256)]
+
+
 def checksum(data):
     total = 0
     for byte in data:
-        total ^= byte
-        for _ in range(8):
-            total = total >> 1 ^ (0xA001 if total & 1 else 0)
+        total = total >> 8 ^ SHIFTED[(total ^ byte) & 255]
     return struct.pack("<H", total)
 
 

@@ -60,3 +60,9 @@ def copied(data, change=lambda message: message):
         for event in gazhdor.messages(data, everything=True):
             out.copy(change(event) if isinstance(event, gazhdor.Message) else event)
     return sink.getvalue()
+
+
+def told(message):
+    """What a message tells; one whose time was in its header may have it as a timestamp."""
+    fields = [(f.number, f.developer, f.name, f.unit, f.base, repr(f.raw)) for f in message.fields]
+    return message.number, message.time, [field for field in fields if field[:2] != (253, None)]

@@ -7,6 +7,7 @@ import shutil
 import subprocess
 import sys
 import tempfile
+import traceback
 import unittest
 
 TREE = os.path.dirname(os.path.dirname(os.path.dirname(os.path.abspath(__file__))))
@@ -56,6 +57,42 @@ def example(name):
 def run(*words, **how):
     """What Python does with these words."""
     return subprocess.run([sys.executable, *words], stdout=subprocess.PIPE, stderr=subprocess.PIPE, **how)
+
+
+def command(*words, input=b""):
+    """What `python3 -m gazhdor` does with these words, as `run`, but in a process that is forked of this one, where Python
+    is started and the module is loaded: that takes a tenth of the time."""
+    if not hasattr(os, "fork"):
+        return run("-m", "gazhdor", *words, input=input)
+    with tempfile.TemporaryFile() as given, tempfile.TemporaryFile() as made, tempfile.TemporaryFile() as faults:
+        given.write(input)
+        given.seek(0)
+        process = os.fork()
+        if process == 0:
+            _command(words, given, made, faults)
+        status = os.waitstatus_to_exitcode(os.waitpid(process, 0)[1])
+        made.seek(0)
+        faults.seek(0)
+        return subprocess.CompletedProcess(words, status, made.read(), faults.read())
+
+
+def _command(words, *files):
+    """Does what the words say, with these files for input, output and faults, and ends the process."""
+    status = 1
+    try:
+        for number, file in enumerate(files):
+            os.dup2(file.fileno(), number)
+        sys.stdin, sys.stdout = open(0, closefd=False), open(1, "w", closefd=False)
+        sys.stderr = open(2, "w", buffering=1, errors="backslashreplace", closefd=False)
+        from gazhdor import __main__ as program
+
+        sys.argv = [program.__file__, *words]
+        status = program.main()
+        sys.stdout.flush()
+    except BaseException:
+        traceback.print_exc()
+    finally:
+        os._exit(status)
 
 
 @functools.lru_cache(maxsize=None)

@@ -2,6 +2,7 @@
 it; of other bytes by what the FIT protocol says."""
 import datetime
 import gzip
+import importlib.util
 import io
 import multiprocessing
 import os
@@ -15,7 +16,7 @@ import threading
 import unittest
 import xml.etree.ElementTree
 
-from support import BYTES, RIDE, VERSION, example, folder, in_tree, left_out, run
+from support import BYTES, RIDE, VERSION, command, example, folder, in_tree, left_out, run
 
 import gazhdor
 
@@ -254,52 +255,57 @@ class Processes(unittest.TestCase):
 
 
 class Shell(unittest.TestCase):
+    """What the command does; how it starts is seen by `run`."""
+
     def test_check(self):
         done = run("-m", "gazhdor", "check", RIDE)
         self.assertEqual((done.returncode, done.stdout, done.stderr), (0, f"{RIDE}: ok, 1 file\n".encode(), b""))
-        done = run("-m", "gazhdor", "check", RIDE, "-", input=BYTES[:20])
+        done = command("check", RIDE, "-", input=BYTES[:20])
         self.assertEqual((done.returncode, done.stdout), (1, f"{RIDE}: ok, 1 file\n-: truncated at byte 20\n".encode()))
 
     def test_both_ways(self):
-        text = run("-m", "gazhdor", "to-csv", RIDE).stdout
+        text = command("to-csv", RIDE).stdout
         self.assertEqual(run("-m", "gazhdor", "from-csv", input=text).stdout, BYTES)
 
     def test_errors(self):
-        self.assertEqual(run("-m", "gazhdor").returncode, 2)
-        self.assertEqual(run("-m", "gazhdor", "frob", RIDE).returncode, 2)
+        done = run("-m", "gazhdor")
+        self.assertEqual((done.returncode, command().returncode, command().stderr), (2, 2, done.stderr))
+        self.assertEqual(command("frob", RIDE).returncode, 2)
         for word in ("-h", "--help"):
-            self.assertEqual((run("-m", "gazhdor", word).returncode, run("-m", "gazhdor", word).stdout[:6]),
-                (0, b"usage:"))
-        self.assertEqual(run("-m", "gazhdor", "--version").stdout, f"gazhdor {VERSION}\n".encode())
+            done = command(word)
+            self.assertEqual((done.returncode, done.stdout[:6]), (0, b"usage:"))
+        self.assertEqual(command("--version").stdout, f"gazhdor {VERSION}\n".encode())
         none = os.path.join(WORK, "none.fit")
-        done = run("-m", "gazhdor", "check", none, WORK, RIDE)
+        done = command("check", none, WORK, RIDE)
         self.assertEqual((done.returncode, done.stdout), (4, f"{RIDE}: ok, 1 file\n".encode()))
         told = (none, "No such file or directory"), (WORK, "Is a directory")
         self.assertEqual(done.stderr, "".join(f"{path}: {why}\n" for path, why in told).encode())
 
     def test_names(self):
         """A name that begins with a dash, and one that is not UTF-8, whatever the language of the shell is."""
-        for name in (b"-dash.fit", b"a \xff.fit"):
-            path = os.path.join(os.fsencode(WORK), name)
-            with open(path, "wb") as file:
+        names = (b"-dash.fit", b"a \xff.fit")
+        for name in names:
+            with open(os.path.join(os.fsencode(WORK), name), "wb") as file:
                 file.write(BYTES)
-            for language in ("C", "C.UTF-8"):
-                how = dict(cwd=WORK, env=dict(os.environ, LC_ALL=language, PYTHONIOENCODING="ascii:strict"))
-                done = run("-m", "gazhdor", "check", "--", name, **how)
-                self.assertEqual((done.returncode, done.stdout, done.stderr), (0, name + b": ok, 1 file\n", b""))
-            os.remove(path)
+        for language in ("C", "C.UTF-8"):
+            how = dict(cwd=WORK, env=dict(os.environ, LC_ALL=language, PYTHONIOENCODING="ascii:strict"))
+            done = run("-m", "gazhdor", "check", "--", *names, **how)
+            said = b"".join(name + b": ok, 1 file\n" for name in names)
+            self.assertEqual((done.returncode, done.stdout, done.stderr), (0, said, b""))
+        for name in names:
+            os.remove(os.path.join(os.fsencode(WORK), name))
 
     def test_before_a_fault(self):
         """What comes before a fault is written, as the program does it; of a text that is refused nothing is."""
-        for command in ("table", "to-csv", "show"):
-            whole = run("-m", "gazhdor", command, RIDE).stdout
-            done = run("-m", "gazhdor", command, "-", input=BYTES[:2000])
+        for kind in ("table", "to-csv", "show"):
+            whole = command(kind, RIDE).stdout
+            done = command(kind, "-", input=BYTES[:2000])
             self.assertEqual((done.returncode, done.stderr), (1, b"-: truncated at byte 2000\n"))
             self.assertTrue(0 < len(done.stdout) < len(whole) and whole.startswith(done.stdout))
-        done = run("-m", "gazhdor", "from-csv", input=b"row,a,b,c,d,e,f\n")
+        done = command("from-csv", input=b"row,a,b,c,d,e,f\n")
         self.assertEqual((done.returncode, done.stdout, done.stderr),
             (1, b"", b"-: row 2 refused: the text ends where a row must follow that begins with file\n"))
-        done = run("-m", "gazhdor", "table", input=b"\x0d")
+        done = command("table", input=b"\x0d")
         self.assertEqual((done.returncode, done.stderr), (1, b"-: refused at byte 0: HeaderSize\n"))
 
     def test_output_that_fails(self):
@@ -376,7 +382,7 @@ class Examples(unittest.TestCase):
         self.assertEqual((done.returncode, done.stderr), (1, f"load_rides.py: {database} is there already\n".encode()))
 
     def test_pandas(self):
-        if run("-c", "import pandas").returncode:
+        if not importlib.util.find_spec("pandas"):
             left_out("there is no pandas, so its example isn't tried")
         done = run(example("pandas_table.py"), RIDE)
         self.assertEqual(done.returncode, 0, done.stderr)

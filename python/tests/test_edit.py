@@ -11,6 +11,7 @@ import sys
 import unittest
 
 from support import BYTES, RIDE, bytes_at, example, folder, in_tree, left_out, run
+from made import written
 from fits import DESCRIBE, SINT32, UINT16, UINT32, UINT8, any_file, define, describe, fit, packed
 
 import gazhdor
@@ -162,6 +163,61 @@ class Edit(unittest.TestCase):
         with open(at("full"), "wb") as full:
             self.assertEqual(subprocess.run([*words[:-2], RIDE, "/dev/full"], stderr=full).returncode, 4)
 
+    def test_sub_sport(self):
+        """A lap that is cut keeps its sub_sport, which EXTRA alone names, unless that is emptied."""
+        def step(out):
+            for k in range(10):
+                out.write("record", timestamp=START + k, heart_rate=60)
+            out.write("lap", timestamp=START + 9, start_time=START, total_elapsed_time=9, sport=2, sub_sport=6)
+
+        data = written(step, names=gazhdor.EXTRA)
+        for drop, wanted in ((), 6), ("lap.39", None), ("sub_sport", None), ("lap.sport", 6):
+            into = io.BytesIO()
+            gazhdor.edit(data, into, drop=drop, begin=START + 2, end=START + 6)
+            (lap,) = gazhdor.messages(into.getvalue(), only="lap", names=gazhdor.EXTRA)
+            self.assertEqual((lap.get("sub_sport"), lap["total_elapsed_time"]), (wanted, 4))
+
+    def test_sums_of_what_is_emptied(self):
+        """What a reader adds up of a field that is emptied isn't written into another field of a part either."""
+
+        def step(out):
+            for k in range(10):
+                speed = ((160 * k & 0xFFF) << 12 | 300).to_bytes(3, "little")
+                sums = {"cycles": 3 * k, "compressed_accumulated_power": 100 * k}
+                out.write("record", {"timestamp": START + k, "compressed_speed_distance": speed, **sums})
+
+        fields = {8: ("compressed_speed_distance", 5), 18: ("cycles", 19), 28: ("compressed_accumulated_power", 29)}
+        for number, (name, sum_of) in fields.items():
+            for word in (name, f"record.{name}", str(number), f"20.{number}"):
+                part = io.BytesIO()
+                emptied = gazhdor.edit(written(step, names=gazhdor.EXTRA), part, drop=word, begin=START + 3)
+                self.assertEqual(emptied, {("record", name): 7})
+                records = list(gazhdor.messages(part.getvalue(), only="record", names=gazhdor.EXTRA))
+                sums = {of: [record.get(of) for record in records] for _, of in fields.values()}
+                wanted = {5: [10.0 * k for k in range(7)], 19: [3 * k for k in range(3, 10)],
+                    29: [100 * k for k in range(3, 10)], sum_of: [None] * 7}
+                self.assertEqual(sums, wanted)
+                told = gazhdor.messages(part.getvalue(), only=("lap", "session"))
+                metres, speed = (None, None) if number == 8 else (60.0, 3.0)
+                for message in told:
+                    self.assertEqual((message.get("total_distance"), message.get("max_speed")), (metres, speed))
+
+    def test_last_times(self):
+        """A part whose local time would be beyond 32 bits is told without one."""
+        end = 2**32 - 30
+
+        def step(out):
+            for time in range(end - 70, end + 1):
+                out.write("record", timestamp=time, heart_rate=60)
+            out.write("session", timestamp=end, start_time=end - 70, total_elapsed_time=70, sport=2)
+            out.write("activity", timestamp=end - 30, local_timestamp=end + 20, num_sessions=1)
+
+        for begin, local in ((end - 50, None), (end - 70, end + 20)):
+            into = io.BytesIO()
+            gazhdor.edit(written(step), into, begin=begin)
+            (activity,) = gazhdor.messages(into.getvalue(), only="activity")
+            self.assertEqual((activity.get("local_timestamp"), activity["num_sessions"]), (local, 1))
+
 
 class Join(unittest.TestCase):
     def test_chain(self):
@@ -225,6 +281,23 @@ class Join(unittest.TestCase):
         with self.assertRaisesRegex(ValueError, "file 2 doesn't describe its developer field dev_0_1"):
             gazhdor.join([first, second], io.BytesIO(), one=True)
         gazhdor.join([second, first], io.BytesIO())
+
+    def test_kinds_of_numbers(self):
+        """The number of a lap stays of its base type; several numbers, a text and bytes are none, and stay."""
+        kinds = {("uint8", 1): (7, [0, 1]), ("uint32", 1): (7, [0, 1]), ("float32", 1): (7, [0, 1]),
+            ("uint16", 2): ([1, 2], [(1, 2)] * 2), ("string", 3): ("ab", ["ab"] * 2), ("byte", 2): (b"ab", [b"ab"] * 2)}
+        for (base, count), (value, wanted) in kinds.items():
+            def step(out, begin):
+                out.write("record", timestamp=begin)
+                lap = out.define("lap", [253, 2, 7, (254, base, count)])
+                lap.write({253: begin, 2: begin, 7: 0, 254: value})
+
+            files = [written(lambda out, begin=begin: step(out, begin)) for begin in (START, START + 9)]
+            into = io.BytesIO()
+            gazhdor.join(files, into, one=True)
+            laps = gazhdor.messages(into.getvalue(), only="lap")
+            self.assertEqual([(lap[254], lap.field(254).base) for lap in laps],
+                [(number, next(gazhdor.messages(files[0], only="lap")).field(254).base) for number in wanted])
 
     def test_numbers(self):
         """Means and maxima, a pause, and what no record has, by arithmetic."""

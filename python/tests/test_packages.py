@@ -1,5 +1,4 @@
-"""What the wheel of gazhdor must have and do, how the module finds its library, its types, and the example that dask
-runs."""
+"""What the wheel of gazhdor must have and do, how the module finds its library, and the example that dask runs."""
 import base64
 import csv
 import hashlib
@@ -19,7 +18,6 @@ import unittest.mock
 import zipfile
 
 from support import BYTES, PYTHON, RIDE, VERSION, bytes_at, example, folder, in_tree, left_out
-from typed import TYPED, WRONG
 
 MACHINE = f"{platform.machine()}-linux"
 LIBRARY = f"release/{MACHINE}/libgazhdor.so"
@@ -306,21 +304,6 @@ except ImportError as error:
         done = run("-m", "gazhdor", "check", RIDE, env=variables(PYTHONPATH=PYTHON, GAZHDOR_LIBRARY="none.so"))
         self.assertEqual((done.returncode, done.stdout, done.stderr.count(b"\n")), (1, b"", 1))
         self.assertIn(b"(LibraryMissing: none.so isn't there, which GAZHDOR_LIBRARY names)", done.stderr)
-
-
-class Types(unittest.TestCase):
-    def test_mypy(self):
-        """The module, and a program that uses all of it, in the strict way; and each wrong use is seen."""
-        has(shutil.which("mypy"), "mypy, so the types aren't checked")
-        program = os.path.join(WORK, "typed.py")
-        lines = len(TYPED.splitlines())
-        with open(program, "w") as file:
-            file.write(TYPED + "".join(f"{wrong}\n" for wrong in WRONG))
-        words = ["mypy", "--strict", "--cache-dir", os.path.join(WORK, "types"), MODULE, program]
-        done = subprocess.run(words, stdout=subprocess.PIPE)
-        said = [line for line in done.stdout.decode().splitlines() if ": error:" in line]
-        self.assertEqual([line.split(":")[:2] for line in said],
-            [[program, str(lines + number)] for number in range(1, len(WRONG) + 1)])
 
 
 class Dask(unittest.TestCase):

@@ -1,6 +1,6 @@
 """Whether the parts of recordings, joined again, come to what the whole did, and each says of itself what its records
-say: by the sums of what is read of the whole, of activities that are made here, of recordings of each kind and of the
-known files."""
+say: by the sums of what is read of the whole, of the activities of activities.py, of recordings of each kind and of the
+known files. Each is cut once, at 20 places, and all sums are those of the same parts."""
 import bisect
 import collections
 import concurrent.futures
@@ -10,98 +10,14 @@ import random
 import unittest
 
 from support import RIDE, bytes_at, known, recording
+from activities import activity
 from fits import any_file
 
 import gazhdor
 
-START = 1147937400
 PLACES = 20
-SUMS = ("total_timer_time", "total_calories", "total_distance")
-
-
-class Made:
-    """A random activity: sessions of several sports, with laps, pauses, and beats without a time."""
-
-    def __init__(self, r):
-        self.r, self.time, self.distance, self.calories = r, START + r.randrange(10**6), r.choice((0, 0, 12345)), 0
-        sink = io.BytesIO()
-        with gazhdor.Writer(sink) as self.out:
-            self.out.write("file_id", type=4, time_created=self.time)
-            self.out.write("developer_data_id", developer_data_index=0)
-            self.laps = []
-            sessions = [self.session(number) for number in range(r.choice((1, 1, 2)))]
-            for values in sessions:
-                self.out.write("session", values)
-            self.out.write(
-                "activity",
-                timestamp=self.time,
-                num_sessions=len(sessions),
-                type=0,
-                total_timer_time=sum(values["total_timer_time"] for values in sessions),
-                local_timestamp=self.time + 7200,
-            )
-        self.data = sink.getvalue()
-
-    def session(self, number):
-        r, first, begin, distance = self.r, len(self.laps), self.time, self.distance
-        sport = r.randrange(1, 20)
-        self.out.write("sport", sport=sport, sub_sport=number)
-        self.out.write("event", timestamp=self.time, event=0, event_type=0)
-        self.record()
-        for _ in range(r.choice((1, 1, 2, 3))):
-            self.laps.append(self.lap(sport))
-        self.out.write("event", timestamp=self.time, event=0, event_type=4)
-        laps = self.laps[first:]
-        told = {
-            "timestamp": self.time,
-            "start_time": begin,
-            "sport": sport,
-            "sub_sport": number,
-            "message_index": number,
-            "total_elapsed_time": self.time - begin,
-            "total_distance": (self.distance - distance) / 100,
-            "first_lap_index": first,
-            "num_laps": len(laps),
-            **{name: sum(lap[name] for lap in laps) for name in ("total_timer_time", "total_calories")},
-        }
-        self.time += r.choice((0, 1, 40))
-        return told
-
-    def lap(self, sport):
-        r, begin, distance, ran = self.r, self.time, self.distance, 0
-        for _ in range(r.randrange(3, 12)):
-            step = r.choice((1, 1, 1, 3, 7))
-            if r.random() < 0.07:
-                self.out.write("event", timestamp=self.time, event=0, event_type=r.choice((1, 4)))
-                self.time += r.randrange(200)
-                self.out.write("event", timestamp=self.time, event=0, event_type=0)
-                ran -= step
-                self.time -= step
-            self.time += step
-            ran += step
-            self.distance += r.randrange(900)
-            self.record()
-            if r.random() < 0.8:
-                beats = [r.randrange(300, 1200) / 1000 for _ in range(r.randrange(1, 6))]
-                self.out.write("hrv", time=beats + [None] * (5 - len(beats)))
-        told = {
-            "message_index": len(self.laps),
-            "timestamp": self.time,
-            "start_time": begin,
-            "sport": sport,
-            "total_elapsed_time": self.time - begin,
-            "total_timer_time": max(ran, 0),
-            "total_calories": r.randrange(200),
-            "total_distance": (self.distance - distance) / 100,
-            "total_ascent": r.randrange(50),
-        }
-        self.out.write("lap", told)
-        return told
-
-    def record(self):
-        self.out.write(
-            "record", timestamp=self.time, heart_rate=self.r.randrange(60, 200), distance=self.distance / 100
-        )
+ACTIVITIES = 300
+KINDS = ("plain", "compressed", "developer", "interleaved", "turns", "definitions", "strings", "small")
 
 
 def part(data, begin, end):
@@ -125,7 +41,7 @@ def joined(parts):
 def messages(data):
     """The messages of a file, by their names."""
     found = collections.defaultdict(list)
-    for message in gazhdor.messages(data):
+    for message in gazhdor.messages(data, names=gazhdor.EXTRA):
         found[message.name].append(message)
     return found
 
@@ -138,9 +54,10 @@ def beats(data):
     return [time for message in of(data, "hrv") for time in message.values("time")]
 
 
-def told(records):
-    """What records say but for their distances."""
-    return [(m.seconds, {key: value for key, value in m.items() if key != "distance"}) for m in records]
+def counted(records):
+    """The cycles and watts that records are told of all before them: by a field, or as a reader accumulates them."""
+    return [(cycles if cycles is not None else m.total_cycles, power if power is not None else m.accumulated_power)
+        for m, cycles, power in ((m, m.get(19), m.get(29)) for m in records)]
 
 
 def timed(records):
@@ -152,9 +69,19 @@ def timed(records):
     )
 
 
+def whole(record):
+    """All that a record says but for its distance, and what is written of what was accumulated; the time of a header
+    may have become a timestamp."""
+    fields = [(f.number, f.developer, f.name, f.unit, f.base, repr(f.raw)) for f in record.fields]
+    left_out = ((253, None), (5, None), (19, None), (29, None))
+    return record.seconds, repr([field for field in fields if field[:2] not in left_out])
+
+
 def ran(data):
     """The seconds in which the timer ran up to each of some times, by the events."""
     events = [(m.seconds, m["event_type"]) for m in of(data, "event") if m.get("event") == 0]
+    if not events:
+        return lambda time: time
 
     def up_to(time):
         total, since = 0, None
@@ -170,139 +97,203 @@ def ran(data):
     return up_to
 
 
-class Parts(unittest.TestCase):
-    def cut(self, data, r):
-        """The parts of a recording that is cut at random times of its records, with the spans."""
-        times = sorted({m.seconds for m in of(data, "record") if m.seconds is not None})
-        cuts = sorted(r.sample(times[1:], min(PLACES, len(times) - 1))) if times else []
-        spans = list(zip([None, *cuts], [*(cut - 1 for cut in cuts), None]))
-        found = [(span, part(data, *span)) for span in spans]
-        return [(span, made) for span, made in found if made is not None]
+def cut(data, r):
+    """The parts of a recording that is cut at random times of its records, with the spans."""
+    times = sorted({m.seconds for m in of(data, "record") if m.seconds is not None})
+    cuts = sorted(r.sample(times[1:], min(PLACES, len(times) - 1))) if times else []
+    spans = list(zip([None, *cuts], [*(cut - 1 for cut in cuts), None]))
+    found = [(span, part(data, *span)) for span in spans]
+    return [(span, made) for span, made in found if made is not None]
+
+
+class Activity(unittest.TestCase):
+    """What is so of the parts of an activity, and of these joined again."""
+
+    def see(self, seed):
+        self.data, r = activity(seed), random.Random(seed)
+        self.parts = cut(self.data, r)
+        self.assertEqual(len(self.parts), PLACES + 1)
+        for span, piece in self.parts:
+            self.see_part(span, piece)
+        self.both = joined([piece for _, piece in self.parts])
+        self.see_messages()
+        self.see_numbers()
+        self.see_sums()
+        for name in ("lap", "session"):
+            self.see_wholes(name)
+
+    # ---- each part
 
     def see_part(self, span, data):
         """That a part says of itself what its records say, and has nothing of outside."""
         begin, end = span
         for times in ([m.seconds for m in found if m.seconds is not None] for found in messages(data).values()):
             self.assertTrue(not times or (begin is None or min(times) >= begin) and (end is None or max(times) <= end))
-        records, laps, sessions = (of(data, name) for name in ("record", "lap", "session"))
-        (activity,) = of(data, "activity")
-        self.assertEqual(
-            (activity["num_sessions"], activity["total_timer_time"]),
-            (len(sessions), sum(session["total_timer_time"] for session in sessions)),
-        )
-        self.assertEqual(
-            sum(session["total_timer_time"] for session in sessions), sum(lap["total_timer_time"] for lap in laps)
-        )
-        indices = [lap["message_index"] for lap in laps]
-        self.assertEqual(
-            indices,
-            [
-                index
-                for session in sessions
-                for index in range(session["first_lap_index"], session["first_lap_index"] + session["num_laps"])
-            ],
-        )
+        laps, sessions = of(data, "lap"), of(data, "session")
+        (told,) = of(data, "activity")
+        timer = sum(session["total_timer_time"] for session in sessions)
+        self.assertEqual((told["num_sessions"], told["total_timer_time"]), (len(sessions), timer))
+        self.assertEqual(sum(lap["total_timer_time"] for lap in laps), timer)
+        counts = ((session["first_lap_index"], session["num_laps"]) for session in sessions)
+        self.assertEqual([lap["message_index"] for lap in laps],
+            [index for first, count in counts for index in range(first, first + count)])
+        self.assertLessEqual({m["sport"] for m in of(data, "sport")}, {m["sport"] for m in sessions})
+        self.see_told(data, (*laps, *sessions))
         if begin is not None:
-            self.assertEqual(records[0]["distance"], 0)
-        for whole in (*laps, *sessions):
-            inside = [m for m in records if whole["start_time"] <= m.seconds <= whole["timestamp"]]
-            self.assertAlmostEqual(whole["total_distance"], inside[-1]["distance"] - inside[0]["distance"], 6)
-            self.assertEqual(whole["total_elapsed_time"], whole["timestamp"] - whole["start_time"])
-            if "max_heart_rate" in whole:
+            self.assertEqual(of(data, "record")[0].distance, 0)
+
+    def see_told(self, data, wholes):
+        """That laps and sessions say what the records in their time do."""
+        for told in wholes:
+            inside = [m for m in of(data, "record") if told["start_time"] <= m.seconds <= told["timestamp"]]
+            self.assertAlmostEqual(told["total_distance"], inside[-1].distance - inside[0].distance, 6)
+            self.assertEqual(told["total_elapsed_time"], told["timestamp"] - told["start_time"])
+            if "max_heart_rate" in told:
                 rates = [m["heart_rate"] for m in inside]
-                self.assertEqual(
-                    (whole["max_heart_rate"], whole["avg_heart_rate"]), (max(rates), int(sum(rates) / len(rates) + 0.5))
-                )
+                mean = int(sum(rates) / len(rates) + 0.5)
+                self.assertEqual((told["max_heart_rate"], told["avg_heart_rate"]), (max(rates), mean))
 
-    def test_activities(self):
-        """300 activities: what is lost lies between the last record of a part and the first of the next one."""
-        with concurrent.futures.ProcessPoolExecutor() as pool:
-            self.assertEqual(sum(pool.map(see_activity, range(300), chunksize=10)), 300)
+    # ---- the parts together
 
-    def see_activity(self, seed):
-        r = random.Random(seed)
-        data = Made(r).data
-        parts = self.cut(data, r)
-        for span, piece in parts:
-            self.see_part(span, piece)
-        both = joined([piece for _, piece in parts])
-        self.assertEqual((told(of(both, "record")), beats(both)), (told(of(data, "record")), beats(data)), seed)
-        self.see_sums(data, both, parts)
-        self.see_laps(data, parts)
+    def see_messages(self):
+        """That records, beats and lengths are those of the whole, and what counts on over all records."""
+        data, both = self.data, self.both
+        records = of(data, "record")
+        self.assertEqual(list(map(whole, of(both, "record"))), list(map(whole, records)))
+        self.assertEqual(counted(of(both, "record")), [(m.total_cycles, m.accumulated_power) for m in records])
+        of_parts = [pair for _, piece in self.parts for pair in counted(of(piece, "record"))]
+        self.assertEqual(of_parts, counted(records))
+        self.assertEqual(beats(both), beats(data))
+        firsts = [span[0] for span, _ in self.parts[1:]]
+        inside = [m["total_strokes"] for m in of(data, "length") if m.seconds not in firsts]
+        self.assertEqual([m["total_strokes"] for m in of(both, "length")], inside)
 
-    def see_sums(self, data, both, parts):
-        sessions, laps, (session,) = of(data, "session"), of(both, "lap"), of(both, "session")
-        up_to, records = ran(data), of(data, "record")
+    def see_numbers(self):
+        """That what is joined names laps and lengths by the numbers that these have there, and no session that is gone."""
+        laps, lengths = of(self.both, "lap"), of(self.both, "length")
+        self.assertEqual([m["message_index"] for m in lengths], list(range(len(lengths))))
+        for zone in of(self.both, "time_in_zone"):
+            lap = laps[zone["reference_index"]]
+            self.assertEqual((zone["reference_mesg"], zone.seconds), (19, lap.seconds))
+        for lap in laps:
+            inside = [m["message_index"] for m in lengths if lap["start_time"] < m.seconds <= lap.seconds]
+            if inside and lap.get("first_length_index") is not None:
+                self.assertEqual(lap["first_length_index"], inside[0])
+
+    def see_sums(self):
+        """That sums are those of the whole: what is lost lies between the last record of a part and the first of the
+        next one."""
+        sessions, laps, (session,) = of(self.data, "session"), of(self.both, "lap"), of(self.both, "session")
+        up_to, records = ran(self.data), of(self.data, "record")
         times = [m.seconds for m in records]
-        lost = distance = 0
-        for span, _ in parts[1:]:
-            at = bisect.bisect_left(times, span[0])
-            lost += up_to(times[at]) - up_to(times[at - 1])
-            distance += records[at]["distance"] - records[at - 1]["distance"]
-        whole = records[-1]["distance"] - records[0]["distance"]
-        self.assertAlmostEqual(session["total_distance"], whole - distance, 6)
+        gaps = [bisect.bisect_left(times, span[0]) for span, _ in self.parts[1:]]
+        lost = sum(up_to(times[at]) - up_to(times[at - 1]) for at in gaps)
+        distance = sum(records[at].distance - records[at - 1].distance for at in gaps)
+        self.assertAlmostEqual(session["total_distance"], records[-1].distance - records[0].distance - distance, 6)
         self.assertEqual(session["total_timer_time"], sum(lap["total_timer_time"] for lap in laps))
         self.assertEqual(session["total_timer_time"], sum(of["total_timer_time"] for of in sessions) - lost)
         if all(of["total_elapsed_time"] > 1 for of in sessions):
             self.assertEqual(session["total_calories"], sum(of["total_calories"] for of in sessions))
-        self.assertEqual(
-            (session["num_laps"], [lap["message_index"] for lap in laps]), (len(laps), list(range(len(laps))))
-        )
+        self.assertEqual((session["num_laps"], [lap["message_index"] for lap in laps]),
+            (len(laps), list(range(len(laps)))))
 
-    def see_laps(self, data, parts):
-        """That whole laps and sessions stay as they are, with the sport of each, and that what is cut has its share of
-        the calories."""
-        shares = {}
+    def see_wholes(self, name):
+        """That whole laps, or sessions, stay as they are, with what tells more of them; that what is cut has its sport,
+        and its share of the calories."""
+        told = {m["message_index"]: m for m in of(self.data, name)}
+        number, shares = {"lap": 19, "session": 18}[name], {}
+        for (begin, end), piece in self.parts:
+            inside = [m for m in told.values()
+                if (begin is None or m["start_time"] >= begin) and (end is None or m.seconds <= end)]
+            found = of(piece, name)
+            self.assertEqual([dict(m) for m in found if m["message_index"] in {m["message_index"] for m in inside}],
+                list(map(dict, inside)))
+            zones = [m["reference_index"] for m in of(piece, "time_in_zone") if m["reference_mesg"] == number]
+            self.assertLessEqual(set(zones), {m["message_index"] for m in inside})
+            for m in found:
+                index = m["message_index"]
+                self.assertEqual(m["sport"], told[index]["sport"])
+                shares[index] = shares.get(index, 0) + m["total_calories"]
+        # Of one that has a second alone, each part may have but one end.
+        for index, share in shares.items():
+            if told[index]["total_elapsed_time"] > 1:
+                self.assertEqual(share, told[index]["total_calories"])
+
+
+class Recording(unittest.TestCase):
+    """What is so of the parts of any recording: records and beats are those of the whole, and so are the sums of such
+    as have laps or sessions."""
+
+    def see(self, name, data, has_sums):
+        parts = cut(data, random.Random(name))
         for (begin, end), piece in parts:
-            for name in ("lap", "session"):
-                inside = [
-                    dict(m)
-                    for m in of(data, name)
-                    if (begin is None or m["start_time"] >= begin) and (end is None or m["timestamp"] <= end)
-                ]
-                found = [dict(m) for m in of(piece, name)]
-                for whole in inside:
-                    self.assertIn(whole, found)
-                own = {m["message_index"]: m["sport"] for m in of(data, name)}
-                for m in found:
-                    self.assertEqual(m["sport"], own[m["message_index"]])
-                    shares[name, m["message_index"]] = shares.get((name, m["message_index"]), 0) + m["total_calories"]
-            sports = {m["sport"] for m in of(piece, "session")}
-            self.assertLessEqual({m["sport"] for m in of(piece, "sport")}, sports)
-        # of one that has a second alone, each part may have but one end
-        whole = {
-            (name, m["message_index"]): m["total_calories"]
-            for name in ("lap", "session")
-            for m in of(data, name)
-            if m["total_elapsed_time"] > 1
-        }
-        self.assertEqual(
-            {key: share for key, share in shares.items() if key in whole},
-            {key: calories for key, calories in whole.items() if key in shares},
-        )
+            times = [m.seconds for m in of(piece, "record") if m.seconds is not None]
+            self.assertTrue(not times or (begin is None or min(times) >= begin) and (end is None or max(times) <= end))
+        found = [m for _, piece in parts for m in of(piece, "record")] if parts else of(data, "record")
+        self.assertEqual(timed(found), timed(of(data, "record")), name)
+        self.see_wholes(name, data, found)
+        if has_sums:
+            self.see_sums(name, data, parts)
+
+    def see_wholes(self, name, data, found):
+        """That records say what they said: times, names, units, types and items, those of developer fields too; and
+        that one without a time has got none."""
+        records = of(data, "record")
+        self.assertEqual(sorted(whole(m) for m in found if m.seconds is not None),
+            sorted(whole(m) for m in records if m.seconds is not None), name)
+        self.assertEqual({whole(m) for m in found if m.seconds is None},
+            {whole(m) for m in records if m.seconds is None}, name)
+
+    def see_sums(self, name, data, parts):
+        """That the parts of a recording, joined, come to what the whole did, but for what lies between them."""
+        both = joined([piece for _, piece in parts])
+        self.see_wholes(name, data, of(both, "record"))
+        self.assertEqual(beats(both), beats(data), name)
+        if not of(data, "record"):
+            return
+        (session,), laps, records = of(both, "session"), of(both, "lap"), of(data, "record")
+        up_to, times = ran(data), [m.seconds for m in records]
+        gaps = [bisect.bisect_left(times, span[0]) for span, _ in parts[1:]]
+        lost = sum(up_to(times[at]) - up_to(times[at - 1]) for at in gaps)
+        wholes = of(data, "session") or of(data, "lap")  # gpsbabel writes no session
+        timer = sum(m.get("total_timer_time", m["total_elapsed_time"]) for m in wholes)
+        self.assertEqual((session["total_timer_time"], len(of(both, "record"))), (timer - lost, len(records)), name)
+        self.assertEqual((sum(lap["total_timer_time"] for lap in laps), session["num_laps"]), (timer - lost, len(laps)))
+        self.assertEqual([session.get("total_calories")], [m.get("total_calories") for m in wholes])
+        if records[0].distance is not None:
+            distance = sum(records[at].distance - records[at - 1].distance for at in gaps)
+            self.assertAlmostEqual(session["total_distance"],
+                records[-1].distance - records[0].distance - distance, 6, name)
+
+
+def see(told):
+    """One case, in a process of its own: the number of an activity, or a recording."""
+    name = told if isinstance(told, int) else told[0]
+    try:
+        if isinstance(told, int):
+            Activity().see(told)
+        else:
+            Recording().see(*told)
+    except AssertionError as error:
+        raise AssertionError(f"{name}: {error}") from error
+    return name
+
+
+class Parts(unittest.TestCase):
+    def see_all(self, cases, size=1):
+        """Sees cases, in as many processes as there are processors."""
+        with concurrent.futures.ProcessPoolExecutor() as pool:
+            return list(pool.map(see, cases, chunksize=size))
+
+    def test_activities(self):
+        self.assertEqual(self.see_all(range(ACTIVITIES), 5), list(range(ACTIVITIES)))
 
     def test_recordings(self):
-        """Recordings of each kind, the ride and the known files: records and beats are those of the whole."""
-        kinds = ("plain", "compressed", "developer", "interleaved")
-        files = {"ride": bytes_at(RIDE), **known(), **{kind: bytes_at(recording(kind, "20k")) for kind in kinds}}
+        """Recordings of each kind, the ride, the known files and random ones."""
+        files = {"ride": bytes_at(RIDE), **known(), **{kind: bytes_at(recording(kind, "20k")) for kind in KINDS}}
         files.update((f"any {seed}", any_file(random.Random(seed))) for seed in range(20))
-        r = random.Random(5)
-        for name, data in files.items():
-            parts = self.cut(data, r)
-            for span, piece in parts:
-                for m in of(piece, "record"):
-                    if m.seconds is not None:
-                        self.assertTrue(
-                            (span[0] is None or m.seconds >= span[0]) and (span[1] is None or m.seconds <= span[1])
-                        )
-            found = [m for _, piece in parts for m in of(piece, "record")]
-            self.assertEqual(timed(found), timed(of(data, "record")) if parts else [], name)
-
-
-def see_activity(seed):
-    """The case of one activity, in a process of its own."""
-    Parts("test_activities").see_activity(seed)
-    return 1
+        cases = [(name, data, name in (*KINDS, "ride")) for name, data in files.items()]
+        self.assertEqual(self.see_all(cases), list(files))
 
 
 if __name__ == "__main__":

@@ -237,11 +237,6 @@ class Whole(unittest.TestCase):
         self.assertEqual(
             gazhdor.lists(data, "record", list(columns)[1:3]), {key: columns[key] for key in list(columns)[1:3]}
         )
-        for wrong in ({}, {"heart_rate": [5]}, {"timestamp": []}):
-            with self.assertRaises(ValueError):
-                gazhdor.activity(wrong)
-        with self.assertRaises(gazhdor.WrongValue):
-            gazhdor.activity({"timestamp": [TIME], "heart_rate": [300]})
         if pandas is not None:
             frame = pandas.DataFrame(
                 {
@@ -250,6 +245,29 @@ class Whole(unittest.TestCase):
                 }
             )
             self.assertEqual(gazhdor.activity(frame, sport=2), data)
+
+    def test_wrong_samples(self):
+        """Times that aren't there or go back, and values that don't fit, are no activity."""
+        for wrong in ({}, {"heart_rate": [5]}, {"timestamp": []}, {"timestamp": [TIME + 5, TIME]},
+                {"timestamp": [TIME, None]}, {"timestamp": [None, TIME]}):
+            with self.assertRaises(ValueError):
+                gazhdor.activity(wrong)
+        with self.assertRaises(gazhdor.WrongValue):
+            gazhdor.activity({"timestamp": [TIME], "heart_rate": [300]})
+
+    def test_sport(self):
+        """A sport is a word or a number that a session can have; what is none is an error, which names the nearest."""
+        columns = {"timestamp": [TIME, TIME + 1]}
+        for sport, number in (("cycling", 2), (2, 2), (254, 254), (None, None)):
+            (session,) = gazhdor.messages(gazhdor.activity(columns, sport=sport), only="session")
+            self.assertEqual(session["sport"], number)
+        with self.assertRaisesRegex(gazhdor.WrongValue, "^sport: 'bicycling' is no word .* is it 'cycling'"):
+            gazhdor.activity(columns, sport="bicycling")
+        for wrong in (255, -1, "", b"x"):
+            sink = io.BytesIO()
+            with self.subTest(wrong), self.assertRaises(gazhdor.WrongValue):
+                gazhdor.activity(columns, sport=wrong, sink=sink)
+            self.assertEqual(sink.getvalue(), b"")
 
     def test_mend(self):
         """What was broken off gets the lap, the session and the activity that it lacks; what is whole stays."""

@@ -23,10 +23,22 @@ pub enum BlockReason {
     Undefined,
     /// The block is a message that ends before the items of its fields do.
     Items,
+    /// The block comes before a file has begun.
+    NoFile,
+    /// The block begins one file more than a chain may have.
+    Files,
+    /// The block is a message of 255 fields that needs a timestamp.
+    Full,
+    /// The block is a message that needs a timestamp, and whose time is the number that stands for none.
+    Time,
+    /// The block is a message of which a developer field has another base type, name or unit in this file, or none.
+    Described,
+    /// The block would make the data of its file longer than a file may have.
+    TooLong,
 }
 
 /// All reasons, in the order of their numbers.
-pub(crate) const BLOCK_REASONS: [BlockReason; 10] = [
+pub(crate) const BLOCK_REASONS: [BlockReason; 16] = [
     BlockReason::Cut,
     BlockReason::Kind,
     BlockReason::Header,
@@ -37,6 +49,12 @@ pub(crate) const BLOCK_REASONS: [BlockReason; 10] = [
     BlockReason::Offset,
     BlockReason::Undefined,
     BlockReason::Items,
+    BlockReason::NoFile,
+    BlockReason::Files,
+    BlockReason::Full,
+    BlockReason::Time,
+    BlockReason::Described,
+    BlockReason::TooLong,
 ];
 
 impl BlockReason {
@@ -60,6 +78,16 @@ impl BlockReason {
             BlockReason::Offset => "the block has a time offset of 32 to 254",
             BlockReason::Undefined => "the block is a message whose local message type isn't defined",
             BlockReason::Items => "the block is a message that ends before the items of its fields do",
+            BlockReason::NoFile => "the block comes before a file has begun",
+            BlockReason::Files => "the block begins one file more than a chain may have",
+            BlockReason::Full => "the block is a message of 255 fields that needs a timestamp",
+            BlockReason::Time => {
+                "the block is a message that needs a timestamp, and whose time is the number that stands for none"
+            }
+            BlockReason::Described => {
+                "the block is a message of which a developer field has another base type, name or unit in this file, or none"
+            }
+            BlockReason::TooLong => "the block would make the data of its file longer than a file may have",
         }
     }
 }

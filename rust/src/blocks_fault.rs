@@ -47,12 +47,12 @@ pub(crate) fn found(answer: &Answer) -> Option<BlocksFault> {
         GOOD => return None,
         NO_MEMORY => BlocksFault::OutOfMemory,
         UNWRITABLE => BlocksFault::Unwritable,
-        BLOCK => BlocksFault::Block { block: answer.row, place: answer.place, reason: reason(answer.reason) },
+        BLOCK => BlocksFault::Block { block: answer.row, place: answer.place, reason: reason_of(answer.reason) },
         other => panic!("status {other} isn't one of gazhdor {} for blocks", env!("CARGO_PKG_VERSION")),
     })
 }
 
-fn reason(number: u32) -> BlockReason {
+pub(crate) fn reason_of(number: u32) -> BlockReason {
     match BLOCK_REASONS.iter().find(|&&reason| reason as u32 == number) {
         Some(&reason) => reason,
         None => panic!("reason {number} isn't one of gazhdor {} for blocks", env!("CARGO_PKG_VERSION")),
@@ -85,8 +85,8 @@ mod tests {
     /// In words, as the table of the project has it.
     #[test]
     fn reasons_in_words() {
-        assert_eq!(reason(8).explanation(), "the block has a time offset of 32 to 254");
-        assert_eq!((1..).zip(BLOCK_REASONS).filter(|&(number, named)| reason(number) == named).count(), 10);
+        assert_eq!(reason_of(8).explanation(), "the block has a time offset of 32 to 254");
+        assert_eq!((1..).zip(BLOCK_REASONS).filter(|&(number, named)| reason_of(number) == named).count(), 16);
     }
 
     #[test]
@@ -96,8 +96,8 @@ mod tests {
     }
 
     #[test]
-    #[should_panic(expected = "reason 11 isn't one of gazhdor")]
+    #[should_panic(expected = "reason 17 isn't one of gazhdor")]
     fn another_reason() {
-        reason(11);
+        reason_of(17);
     }
 }

@@ -20,6 +20,7 @@ use std::borrow::Cow;
 use std::fmt::{self, Debug, Formatter};
 
 const MOST: usize = 255;
+const TIMESTAMP: u8 = 253;
 
 /// Which fields a message has, and how they stand in the file: one that a program makes, or one that was read.
 ///
@@ -124,8 +125,8 @@ impl<'a> Definition<'a> {
         Ok(made)
     }
 
-    /// The same of a fixed local message type, 0 to 15, in the place of one that the writer chooses. Of a larger number the low four bits
-    /// count.
+    /// The same of a local message type, 0 to 15, which it gets where that is free, or by [`Writer::define`](crate::Writer::define) in any
+    /// case. Of a larger number the low four bits count.
     #[must_use]
     pub fn at(mut self, local: u8) -> Definition<'a> {
         self.block.to_mut()[AT_DEFINITION_LOCAL] = local & 15;
@@ -137,6 +138,13 @@ impl<'a> Definition<'a> {
     pub fn big_endian(mut self) -> Definition<'a> {
         self.block.to_mut()[AT_DEFINITION_ARCHITECTURE] = BIG_ENDIAN;
         self
+    }
+
+    /// The same with a timestamp before its fields; none where there is no room for it.
+    pub(crate) fn dated(self) -> Option<Definition<'a>> {
+        let named = profile::field(self.number(), TIMESTAMP);
+        let entry = Entry { number: TIMESTAMP, developer: None, base_type: BaseType::Uint32, items: 1, named };
+        self.with_entry(entry, 0).ok()
     }
 
     /// A message of this definition, in which no field has a value.
@@ -183,7 +191,7 @@ impl<'a> Definition<'a> {
         two(&self.block, AT_DEFINITION_MESSAGE)
     }
 
-    /// The local message type; 0 where the writer chooses it.
+    /// The local message type; 0 where none was given.
     #[must_use]
     pub fn local(&self) -> u8 {
         self.block[AT_DEFINITION_LOCAL] & 15

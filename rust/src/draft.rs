@@ -8,8 +8,9 @@ use crate::numbers::{
     AT_MESSAGE_BITS, AT_MESSAGE_DEFINITION, AT_MESSAGE_HEADER_TIME, AT_MESSAGE_ITEMS, AT_MESSAGE_OFFSET, NO_OFFSET,
     TOLD_HEADER_TIME, TOLD_TIME,
 };
-use crate::time::Time;
+use crate::time::{time_after, Time};
 use crate::value_error::{label, Unfit};
+use std::borrow::Cow;
 use std::fmt::{self, Debug, Formatter};
 
 /// How many bytes an item has.
@@ -47,7 +48,7 @@ impl From<(u8, u8)> for Key<'_> {
 }
 
 impl Key<'_> {
-    fn names(self, position: usize, field: &Field<'_>) -> bool {
+    pub(crate) fn names(self, position: usize, field: &Field<'_>) -> bool {
         match self {
             Key::Name(name) => field.is_named(name.as_bytes()),
             Key::Number(number) => field.developer().is_none() && field.number() == number,
@@ -56,7 +57,7 @@ impl Key<'_> {
         }
     }
 
-    fn label(self) -> String {
+    pub(crate) fn label(self) -> String {
         match self {
             Key::Name(name) => name.to_string(),
             Key::Number(number) => format!("field_{number}"),
@@ -192,8 +193,8 @@ impl<'a> Draft<'a> {
         Ok(())
     }
 
-    /// Gives it a compressed timestamp header with this time offset, 0 to 31, or else a normal header. Its local message type has to be 0 to
-    /// 3 then.
+    /// Gives it a compressed timestamp header with this time offset, 0 to 31, or else a normal header. Where it is written, it has the first
+    /// time at or after that of the message before it whose low five bits are these.
     ///
     /// # Errors
     ///
@@ -204,7 +205,33 @@ impl<'a> Draft<'a> {
             return Err(Unfit::Range { field, value, least: "0".to_string(), most: "31".to_string() });
         }
         self.block[AT_MESSAGE_OFFSET] = offset.unwrap_or(NO_OFFSET);
+        self.block[AT_MESSAGE_BITS] &= !TOLD_HEADER_TIME;
         Ok(())
+    }
+
+    /// Has its time offset say another time.
+    pub(crate) fn set_header_time(&mut self, time: u32) {
+        self.block[AT_MESSAGE_OFFSET] = (time & 31) as u8;
+        self.block[AT_MESSAGE_HEADER_TIME..AT_MESSAGE_ITEMS].copy_from_slice(&u64::from(time).to_le_bytes());
+        self.block[AT_MESSAGE_BITS] |= TOLD_HEADER_TIME;
+    }
+
+    /// Leaves untold what these bits stand for.
+    pub(crate) fn untell(&mut self, bits: u8) {
+        self.block[AT_MESSAGE_BITS] &= !bits;
+    }
+
+    /// The same after a message of a time, from which its time offset counts where it tells no time itself.
+    pub(crate) fn after(&self, before: Option<u32>) -> Cow<'_, Draft<'a>> {
+        let message = self.message();
+        match message.time_offset().filter(|_| message.header_time().is_none()).zip(before) {
+            None => Cow::Borrowed(self),
+            Some((offset, before)) => {
+                let mut made = self.clone();
+                made.set_header_time(time_after(before, offset));
+                Cow::Owned(made)
+            }
+        }
     }
 
     /// A field as it is now.

@@ -84,6 +84,33 @@ pub enum Value<'a> {
     Several,
 }
 
+impl Raw {
+    /// The item of these bits, by what it stands for and how many bytes it has.
+    pub(crate) fn of(kind: u8, width: u8, bits: u64) -> Raw {
+        match kind {
+            STRING | BYTES => Raw::Byte(bits as u8),
+            FLOAT if width == 4 => Raw::Float32(bits as u32),
+            FLOAT => Raw::Float64(bits),
+            SIGNED => {
+                let above = 64 - 8 * u32::from(width.clamp(1, 8));
+                Raw::Signed((bits << above) as i64 >> above)
+            }
+            _ => Raw::Unsigned(bits),
+        }
+    }
+
+    /// The number that it is, without scale and offset.
+    pub(crate) fn number(self) -> Option<f64> {
+        Some(match self {
+            Raw::Unsigned(number) => number as f64,
+            Raw::Signed(number) => number as f64,
+            Raw::Float32(bits) => f32::from_bits(bits).into(),
+            Raw::Float64(bits) => f64::from_bits(bits),
+            Raw::Byte(_) => return None,
+        })
+    }
+}
+
 impl<'a> Field<'a> {
     /// The field of an entry of 48 bytes at least, in the blocks of a definition and of a message.
     pub(crate) fn new(entry: &'a [u8], definition: &'a [u8], message: &'a [u8]) -> Field<'a> {
@@ -211,13 +238,7 @@ impl<'a> Field<'a> {
     /// `f64` where the item, and its offset times its scale, have at most 53 bits.
     #[must_use]
     pub fn value(&self, k: usize) -> Option<f64> {
-        let number = match self.raw(k).filter(|_| self.is_valid(k))? {
-            Raw::Unsigned(number) => number as f64,
-            Raw::Signed(number) => number as f64,
-            Raw::Float32(bits) => f32::from_bits(bits).into(),
-            Raw::Float64(bits) => f64::from_bits(bits),
-            Raw::Byte(_) => return None,
-        };
+        let number = self.raw(k).filter(|_| self.is_valid(k))?.number()?;
         let measure = self.measure();
         (measure.scale != 0.0).then(|| measure.value(number))
     }
@@ -254,17 +275,7 @@ impl<'a> Field<'a> {
     /// Item `k`, counted from 0, as the file has it; none where there is no such item.
     #[must_use]
     pub fn raw(&self, k: usize) -> Option<Raw> {
-        let (bits, width) = (self.bits(k)?, self.entry[AT_ENTRY_WIDTH]);
-        match self.entry[AT_ENTRY_KIND] {
-            STRING | BYTES => Some(Raw::Byte(self.items[k])),
-            FLOAT if width == 4 => Some(Raw::Float32(bits as u32)),
-            FLOAT => Some(Raw::Float64(bits)),
-            SIGNED => {
-                let above = 64 - 8 * u32::from(width);
-                Some(Raw::Signed((bits << above) as i64 >> above))
-            }
-            _ => Some(Raw::Unsigned(bits)),
-        }
+        self.bits(k).map(|bits| Raw::of(self.entry[AT_ENTRY_KIND], self.entry[AT_ENTRY_WIDTH], bits))
     }
 
     /// Whether there is an item `k` and it stands for a value. Each byte of bytes does, and each of a text but a zero.
@@ -323,13 +334,19 @@ impl<'a> Field<'a> {
 
     /// The bits of an item.
     fn bits(&self, k: usize) -> Option<u64> {
-        match self.entry[AT_ENTRY_WIDTH] {
-            1 => self.items.get(k).map(|&byte| byte.into()),
-            2 => some(self.items, k.checked_mul(2)?).map(|bytes| u16::from_le_bytes(bytes).into()),
-            4 => some(self.items, k.checked_mul(4)?).map(|bytes| u32::from_le_bytes(bytes).into()),
-            8 => some(self.items, k.checked_mul(8)?).map(u64::from_le_bytes),
-            _ => None,
-        }
+        let width = self.entry[AT_ENTRY_WIDTH];
+        bits_at(self.items, k.checked_mul(width.into())?, width)
+    }
+}
+
+/// The bits of an item of 1, 2, 4 or 8 bytes at a place; none where it isn't there.
+pub(crate) fn bits_at(bytes: &[u8], at: usize, width: u8) -> Option<u64> {
+    match width {
+        1 => bytes.get(at).map(|&byte| byte.into()),
+        2 => some(bytes, at).map(|bytes| u16::from_le_bytes(bytes).into()),
+        4 => some(bytes, at).map(|bytes| u32::from_le_bytes(bytes).into()),
+        8 => some(bytes, at).map(u64::from_le_bytes),
+        _ => None,
     }
 }
 

@@ -22,56 +22,86 @@
 #![deny(missing_docs)]
 #![deny(unsafe_code)]
 
+mod activity;
+mod anew;
 mod base_type;
 mod block_reason;
 mod blocks;
 mod blocks_fault;
+mod chain;
+mod checksum;
+mod columns;
+mod cut;
 mod definition;
 mod developer;
 mod draft;
+mod edit;
 mod entry;
 mod event;
 mod fault;
 mod field;
+mod gpx;
 mod items;
+mod join;
+mod labels;
 #[allow(unsafe_code)]
 mod library;
 mod measure;
+mod mend;
 mod message;
 mod names;
 mod numbers;
+mod odometer;
+mod outline;
+mod pieces;
 mod place;
+mod places;
+mod position;
 mod profile;
+mod put_fault;
+mod reader;
 mod ready;
 mod reason;
+mod ride;
+mod stamps;
 mod streams;
+mod summary;
 #[cfg(test)]
 mod tests;
 mod time;
+mod timer;
 mod value_error;
+mod whole;
 mod words;
 mod writer;
 
+pub use activity::{activity, ActivityFault, Samples};
 pub use base_type::BaseType;
 pub use block_reason::BlockReason;
 pub use blocks_fault::BlocksFault;
+pub use columns::Columns;
 pub use definition::Definition;
 pub use developer::Developer;
 pub use draft::{Draft, Key};
+pub use edit::{Edit, EditFault, Emptied};
 pub use event::{Checksum, Event, Events, Header};
 pub use fault::{Fault, Stopped};
 pub use field::{Field, Raw, Value};
+pub use gpx::gpx;
+pub use join::{join, join_as_one, JoinFault};
 pub use library::{Bytes, Text};
+pub use mend::{mend, mend_whole, MendFault};
 pub use message::{Fields, Iter, Message, Messages};
 pub use names::{Named, Names, NamesFault};
 pub use place::Place;
+pub use put_fault::{PutFault, WriteFault};
 pub use ready::Ready;
 pub use reason::Reason;
 pub use streams::{Made, ReadFault, Reading, Stream};
 pub use time::Time;
 pub use value_error::Unfit;
 pub use words::words;
-pub use writer::{WriteFault, Writer};
+pub use writer::Writer;
 
 use fault::found;
 

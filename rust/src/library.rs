@@ -22,7 +22,7 @@ struct Made {
     length: usize,
 }
 
-/// A stream, as C has it. Only the library reads what the pointer points to.
+/// A stream or a writer, as C has it. Only the library reads what the pointer points to.
 #[repr(C)]
 struct Handle {
     at: *mut c_void,
@@ -42,6 +42,18 @@ extern "C" {
     fn gazhdor_feed(stream: *mut Handle, bytes: *const u8, length: usize, text: *mut Made) -> Answer;
     fn gazhdor_finish(stream: *mut Handle, text: *mut Made) -> Answer;
     fn gazhdor_close(stream: *mut Handle);
+    fn gazhdor_writer_open(writer: *mut Handle) -> Answer;
+    fn gazhdor_writer_file(writer: *mut Handle, block: *const u8, length: usize) -> Answer;
+    fn gazhdor_writer_definition(writer: *mut Handle, block: *const u8, length: usize) -> Answer;
+    fn gazhdor_writer_messages(
+        writer: *mut Handle,
+        definition: *const u8,
+        definition_length: usize,
+        blocks: *const u8,
+        length: usize,
+    ) -> Answer;
+    fn gazhdor_writer_finish(writer: *mut Handle, bytes: *mut Made) -> Answer;
+    fn gazhdor_writer_close(writer: *mut Handle);
     fn gazhdor_free(text: Made);
     fn gazhdor_version() -> *const c_char;
     #[cfg(test)]
@@ -221,6 +233,51 @@ impl Drop for Opened {
     fn drop(&mut self) {
         // SAFETY: as for `feed`; after this nobody has the handle.
         unsafe { gazhdor_close(&mut self.handle) }
+    }
+}
+
+/// The files of a chain in the making, which are closed when this is dropped. The pointer in it makes it not `Sync`.
+pub(crate) struct Files {
+    handle: Handle,
+}
+
+// SAFETY: that a writer may go to another thread is proved, as `laws::writers_move` of crates/fit_c; nobody else has the pointer.
+unsafe impl Send for Files {}
+
+impl Files {
+    pub(crate) fn new() -> (Answer, Files) {
+        let mut files = Files { handle: Handle { at: ptr::null_mut() } };
+        // SAFETY: the handle is a closed one. Where the answer isn't good it stays so, and may be used and closed as well.
+        let answer = unsafe { gazhdor_writer_open(&mut files.handle) };
+        (answer, files)
+    }
+
+    pub(crate) fn begin(&mut self, header: &[u8]) -> Answer {
+        // SAFETY: the handle is as the last call left it, and no other call uses it. The bytes can be read and don't change meanwhile.
+        unsafe { gazhdor_writer_file(&mut self.handle, header.as_ptr(), header.len()) }
+    }
+
+    pub(crate) fn define(&mut self, definition: &[u8]) -> Answer {
+        // SAFETY: as for `begin`.
+        unsafe { gazhdor_writer_definition(&mut self.handle, definition.as_ptr(), definition.len()) }
+    }
+
+    pub(crate) fn put(&mut self, definition: &[u8], blocks: &[u8]) -> Answer {
+        let (of, bytes) = (definition.as_ptr(), blocks.as_ptr());
+        // SAFETY: as for `begin`.
+        unsafe { gazhdor_writer_messages(&mut self.handle, of, definition.len(), bytes, blocks.len()) }
+    }
+
+    pub(crate) fn finish(&mut self) -> (Answer, Bytes) {
+        // SAFETY: as for `begin`; and `into` holds nothing.
+        put(|into| unsafe { gazhdor_writer_finish(&mut self.handle, into) })
+    }
+}
+
+impl Drop for Files {
+    fn drop(&mut self) {
+        // SAFETY: as for `begin`; after this nobody has the handle.
+        unsafe { gazhdor_writer_close(&mut self.handle) }
     }
 }
 

@@ -306,6 +306,11 @@ impl<'a> Message<'a> {
         self.draft().with(key, value)
     }
 
+    /// The message of another block of the same definition.
+    pub(crate) fn with_block(self, block: &'a [u8]) -> Message<'a> {
+        Message { block, ..self }
+    }
+
     pub(crate) fn block(&self) -> &'a [u8] {
         self.block
     }

@@ -1,7 +1,7 @@
 //! Names, units and scales beside those of the profile.
 use crate::base_type::BaseType;
 use crate::words::type_named;
-use std::collections::BTreeMap;
+use std::collections::{BTreeMap, BTreeSet};
 use std::error::Error;
 use std::fmt::{self, Display, Formatter};
 
@@ -58,6 +58,9 @@ pub struct Names {
     base_types: BTreeMap<(u16, u8), BaseType>,
     /// The types by which numbers of fields have words.
     types: BTreeMap<(u16, u8), &'static str>,
+    /// The fields that are times in UTC, and those that are times by the clock of the place.
+    times: BTreeSet<(u16, u8)>,
+    local_times: BTreeSet<(u16, u8)>,
 }
 
 /// What is wrong with a text of names, and in which line, counted from 1.
@@ -94,7 +97,7 @@ impl Names {
     /// The names of a text with tabs between cells. It begins with the names of its columns, which are some of `message`, `message name`,
     /// `field`, `field name`, `unit`, `scale`, `offset`, `type` and `base type`; messages and fields are numbers. An empty cell leaves what
     /// is known, a row without a field names a message alone, and a line that begins with `#` says nothing. A `type` is `date_time` or
-    /// `local_date_time`, which say nothing here, or one that has [`words`](crate::words()).
+    /// `local_date_time`, which say that it is a time, or one that has [`words`](crate::words()).
     ///
     /// # Errors
     ///
@@ -133,14 +136,21 @@ impl Names {
                 return Err("a scale can't be 0");
             }
             self.name_field(message, field, Named { name: text("field name"), unit: text("unit"), scale, offset });
-            if !["", "date_time", "local_date_time"].contains(&cell("type")) {
-                let kind = type_named(cell("type")).ok_or("there is no such type")?;
-                self.types.insert((message, field), kind);
-            }
+            self.set_type((message, field), cell("type"))?;
             if !cell("base type").is_empty() {
                 let base_type = BaseType::named(cell("base type")).ok_or("there is no such base type")?;
                 self.set_base_type(message, field, base_type);
             }
+        }
+        Ok(())
+    }
+
+    fn set_type(&mut self, of: (u16, u8), kind: &str) -> Result<(), &'static str> {
+        match kind {
+            "" => {}
+            "date_time" => drop(self.times.insert(of)),
+            "local_date_time" => drop(self.local_times.insert(of)),
+            _ => drop(self.types.insert(of, type_named(kind).ok_or("there is no such type")?)),
         }
         Ok(())
     }
@@ -171,6 +181,11 @@ impl Names {
         self.types.get(&(message, field)).copied()
     }
 
+    /// Whether a field is a time in UTC, and whether it is one by the clock of the place.
+    pub(crate) fn is_time(&self, message: u16, field: u8) -> (bool, bool) {
+        (self.times.contains(&(message, field)), self.local_times.contains(&(message, field)))
+    }
+
     /// The name of a message.
     pub fn message(&self, message: u16) -> Option<&str> {
         self.messages.get(&message).map(String::as_str)
@@ -187,6 +202,11 @@ impl Names {
     pub fn field_named(&self, message: u16, name: &str) -> Option<u8> {
         let mut fields = self.fields.range((message, 0)..=(message, u8::MAX));
         fields.find(|(_, named)| named.name.as_deref() == Some(name)).map(|(&(_, number), _)| number)
+    }
+
+    /// Whether a field of any message has a name.
+    pub(crate) fn has_field(&self, name: &str) -> bool {
+        self.fields.values().any(|named| named.name.as_deref() == Some(name))
     }
 
     /// What is said of a field of a message.

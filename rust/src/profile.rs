@@ -43,6 +43,17 @@ pub(crate) fn type_of(message: u16, number: u8) -> Option<&'static str> {
     PROFILE.with(|profile| profile.type_of(message, number))
 }
 
+/// Whether a field of any message has a name.
+pub(crate) fn has_field(name: &str) -> bool {
+    COMMON.iter().any(|row| row.1 == name) || PROFILE.with(|profile| profile.has_field(name))
+}
+
+/// Whether a field is a time in UTC, and whether it is one by the clock of the place.
+pub(crate) fn is_time(message: u16, number: u8) -> (bool, bool) {
+    let (is_time, is_local) = PROFILE.with(|profile| profile.is_time(message, number));
+    (is_time || number == COMMON[0].0, is_local)
+}
+
 #[cfg(test)]
 mod tests {
     use super::*;

@@ -59,6 +59,11 @@ impl Time {
     }
 }
 
+/// The time of a time offset after a message of a time: the least one from that on with these low five bits.
+pub(crate) fn time_after(before: u32, offset: u8) -> u32 {
+    before.wrapping_add(u32::from(offset).wrapping_sub(before) & 31)
+}
+
 impl Display for Time {
     fn fmt(&self, f: &mut Formatter<'_>) -> fmt::Result {
         let seconds = match self.unix() {

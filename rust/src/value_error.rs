@@ -1,5 +1,6 @@
 //! What can't be written, before anything is.
 use crate::field::{Field, Value};
+use crate::labels::numbered;
 use std::error::Error;
 use std::fmt::{self, Display, Formatter};
 
@@ -56,6 +57,13 @@ pub enum Unfit {
         /// The field that is one too many, or too long.
         field: String,
     },
+    /// Nearly all of very many cells of columns would be empty: name the fields.
+    TooMany {
+        /// How many columns there would be.
+        columns: usize,
+        /// How many rows.
+        rows: usize,
+    },
 }
 
 impl Display for Unfit {
@@ -69,6 +77,9 @@ impl Display for Unfit {
             Unfit::Length { field, length, room } => {
                 write!(f, "{field}: there is room for {room}, and not for {length}")
             }
+            Unfit::TooMany { columns, rows } => {
+                write!(f, "nearly all cells of {columns} columns of {rows} messages would be empty: name the fields")
+            }
             Unfit::Full { field } => write!(f, "{field}: there are 255 fields at most, of 255 bytes at most"),
         }
     }
@@ -78,11 +89,7 @@ impl Error for Unfit {}
 
 /// A field as texts name it.
 pub(crate) fn label(field: &Field<'_>) -> String {
-    match (field.name(), field.developer()) {
-        (Some(name), _) => name.to_string(),
-        (None, None) => format!("field_{}", field.number()),
-        (None, Some(index)) => format!("dev_{index}_{}", field.number()),
-    }
+    field.name().map_or_else(|| numbered(field), str::to_string)
 }
 
 /// A value as texts show it, of a long one its beginning.

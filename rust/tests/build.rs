@@ -30,8 +30,8 @@ fn the_right_ones() {
     for (os, processor) in [("linux", "riscv64"), ("macos", "x86_64"), ("windows", "x86_64")] {
         assert_eq!(machine_of(os, processor), None);
     }
-    let right = archive(b"before\x000.8.0\0after", "right");
-    see_library(&right, "0.8.0");
+    let right = archive(b"before\x000.9.0\0after", "right");
+    see_library(&right, "0.9.0");
     fs::remove_file(right).unwrap();
 }
 
@@ -74,14 +74,14 @@ fn damaged() {
     expected = "none/libgazhdor.a can't be read: No such file or directory (os error 2); GAZHDOR_LIB_DIR names"
 )]
 fn no_library() {
-    see_library(Path::new("none/libgazhdor.a"), "0.8.0");
+    see_library(Path::new("none/libgazhdor.a"), "0.9.0");
 }
 
 #[test]
 fn another_version() {
-    let other = archive(b"before\x000.8.01\0after", "other");
-    let seen = std::panic::catch_unwind(|| see_library(&other, "0.8.0"));
+    let other = archive(b"before\x000.9.01\0after", "other");
+    let seen = std::panic::catch_unwind(|| see_library(&other, "0.9.0"));
     fs::remove_file(&other).unwrap();
     let said = seen.unwrap_err().downcast::<String>().unwrap();
-    assert_eq!(*said, format!("{} isn't the library of gazhdor 0.8.0", other.display()));
+    assert_eq!(*said, format!("{} isn't the library of gazhdor 0.9.0", other.display()));
 }

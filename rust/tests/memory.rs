@@ -1,6 +1,6 @@
 //! Each growth of memory refused in turn. This program's own malloc and realloc stand before those of the C library.
 use gazhdor::{check, from_blocks, from_csv, messages, show, table, to_csv};
-use gazhdor::{BlocksFault, Bytes, Fault, Messages, Stopped, Stream, Text};
+use gazhdor::{BlocksFault, Bytes, Fault, Messages, PutFault, Stopped, Stream, Text, WriteFault, Writer};
 use std::cell::Cell;
 use std::ffi::c_void;
 use std::fmt::Debug;
@@ -150,4 +150,46 @@ fn memory_refused_to_a_stream() {
     let again = stream.feed(RIDE).map_err(|stopped| stopped.fault);
     grant(None);
     assert!(fed.is_none() || (fed == Some(Err(Fault::OutOfMemory)) && again == Err(Fault::OutOfMemory)));
+}
+
+/// Copies a ride into a place that is there, each call again where memory was refused to it; how often that was, and how many bytes there are.
+fn copied_again(read: &Messages, place: &mut [u8]) -> (u32, usize) {
+    let whole = place.len();
+    let (mut refused, mut left) = (0, place);
+    let mut out = Writer::new(&mut left);
+    for event in read.events() {
+        while let Err(fault) = out.copy(&event) {
+            assert_eq!(fault, PutFault::OutOfMemory);
+            refused += 1;
+        }
+    }
+    while let Err(fault) = out.try_finish() {
+        assert!(matches!(fault, WriteFault::Put(PutFault::OutOfMemory)));
+        refused += 1;
+    }
+    drop(out);
+    (refused, whole - left.len())
+}
+
+/// What a writer took before it still has, and it goes on.
+#[test]
+fn memory_refused_to_a_writer() {
+    let (read, mut place) = (messages(RIDE).unwrap(), vec![0; 2 * RIDE.len()]);
+    let mut seen = 0;
+    for granted in 0.. {
+        grant(Some(granted));
+        let (refused, length) = copied_again(&read, &mut place);
+        if grant(None) <= Some(granted) {
+            assert_eq!((refused, &place[..length]), (0, RIDE));
+            break;
+        }
+        seen += refused;
+        let again = messages(&place[..length]).unwrap();
+        assert_eq!(again.iter().count(), read.iter().count());
+        for (one, other) in again.iter().zip(&read) {
+            assert_eq!((one.number(), one.time()), (other.number(), other.time()));
+            assert!(one.fields().eq(other.fields()));
+        }
+    }
+    assert!(seen > 50, "{seen}");
 }

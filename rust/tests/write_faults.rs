@@ -1,7 +1,9 @@
 //! What a writer says where no file can be, and what it has written then: nothing.
+mod made;
+
 use gazhdor::{
     check, from_blocks, messages, BaseType, BlockReason, BlocksFault, Checksum, Definition, Developer, Event, Header,
-    WriteFault, Writer,
+    PutFault, WriteFault, Writer,
 };
 use std::io::{self, ErrorKind, Write};
 use std::thread;
@@ -57,41 +59,108 @@ fn nothing_before_the_end() {
     drop(copy_to(Sink { taken: &mut taken, at_once: 7, most: 9 }, &RIDE.repeat(2)));
     assert!(taken.is_empty());
     let empty = Writer::new(&mut taken).finish().unwrap_err();
-    let none = BlocksFault::Block { block: 0, place: 0, reason: BlockReason::Cut };
-    assert!(matches!(empty, WriteFault::Blocks(fault) if fault == none));
+    assert!(matches!(empty, WriteFault::Put(PutFault::Refused(BlockReason::NoFile))));
+    assert_eq!(empty.to_string(), "the block comes before a file has begun");
     assert!(taken.is_empty());
 }
 
-/// A developer field of two bytes without the description of it, in the second file: a reader would take bytes.
+/// After a write that fails nothing is lost: the same bytes are written again, and more may follow.
+#[test]
+fn again_after_a_fault() {
+    let mut taken = Vec::new();
+    let mut out = copy_to(Sink { taken: &mut taken, at_once: 5000, most: RIDE.len() + 9 }, RIDE);
+    out.try_finish().unwrap();
+    assert!(matches!(out.try_finish(), Err(WriteFault::Write(_))));
+    assert!(taken[..RIDE.len()] == *RIDE && taken[RIDE.len()..] == RIDE[..9]);
+    let mut taken = Vec::new();
+    let mut out = copy_to(&mut taken, RIDE);
+    out.try_finish().unwrap();
+    messages(RIDE).unwrap().events().for_each(|event| out.copy(&event).unwrap());
+    out.finish().map(drop).unwrap();
+    assert!(taken == RIDE.repeat(3));
+}
+
+/// Fields of two bytes and of one: in each file that has no description of them they bring it.
 #[test]
 fn developer_fields_without_their_description() {
-    let power = Developer { index: 0, number: 1, base_type: BaseType::Uint16, name: "power".into(), unit: "W".into() };
-    let record = Definition::of("record", &["heart_rate"]).unwrap().with_developer(&power, 1).unwrap();
-    let mut taken = Vec::new();
-    let mut out = Writer::new(&mut taken);
+    let field = |number: u8, base_type: BaseType, name: &str| Developer {
+        index: 0,
+        number,
+        base_type,
+        name: name.to_string(),
+        unit: "W".to_string(),
+    };
+    let (power, lean) = (field(1, BaseType::Uint16, "power"), field(2, BaseType::Sint8, "lean"));
+    let record = Definition::of("record", &["heart_rate"]).unwrap();
+    let record = record.with_developer(&power, 1).unwrap().with_developer(&lean, 1).unwrap();
+    let draft = record.message().with("power", 300).unwrap().with("lean", -3).unwrap();
+    let mut out = Writer::new(Vec::new());
     out.describe(&power).unwrap();
-    out.write(&record.message()).unwrap();
-    out.end().unwrap(); // header, definition, description, definition, message, end: six blocks
-    out.write(&record.message()).unwrap();
-    let fault = out.end().unwrap_err();
-    assert!(matches!(fault, BlocksFault::Block { block: 7, reason: BlockReason::Size, .. }), "{fault}");
-    assert_eq!((out.end(), out.write(&record.message()), out.define(&record)), (Err(fault), Err(fault), Err(fault)));
-    assert!(matches!(out.finish(), Err(WriteFault::Blocks(again)) if again == fault));
-    assert!(taken.is_empty());
+    out.write(&draft).unwrap();
+    out.end();
+    out.write(&draft).unwrap();
+    out.write(&draft).unwrap();
+    let file = out.finish().unwrap();
+    let read = messages(&file).unwrap();
+    let records: Vec<_> = read.iter().filter(|message| message.number() == 20).collect();
+    assert_eq!(records.iter().map(|record| record.file()).collect::<Vec<_>>(), [1, 2, 2]);
+    for record in &records {
+        assert_eq!((record.value("power"), record.value("lean")), (Some(300.0), Some(-3.0)));
+        assert_eq!(record.field("lean").unwrap().unit(), Some("W"));
+    }
+    // Of the first file both, after the one that was written by itself; of the second both once.
+    assert_eq!(read.iter().filter(|message| message.number() == 206).count(), 5);
 }
 
-/// Where a fault begins among the blocks is where the library says it, of all of them.
+/// A developer field of which no description says what it is, in a file that describes it: it would be read as that one.
 #[test]
-fn places_of_faults() {
-    let power = Developer { index: 0, number: 1, base_type: BaseType::Uint16, name: "power".into(), unit: "W".into() };
-    let described = [Definition::numbered(7).with_developer(&power, 1).unwrap()];
-    let mut out = copy_to(Vec::new(), RIDE);
-    out.define(&described[0]).unwrap();
-    let events = messages(RIDE).unwrap();
-    let place = events.blocks().len() as u64 + 32; // after a header
-    let fault = BlocksFault::Block { block: events.events().count() as u64 + 1, place, reason: BlockReason::Size };
-    assert_eq!(out.end(), Err(fault));
-    assert_eq!(fault.to_string(), format!("block {} at {place} refused: Size", events.events().count() + 1));
+fn a_developer_field_that_nothing_describes() {
+    let told = Developer { index: 0, number: 1, base_type: BaseType::Uint8, name: "power".into(), unit: "W".into() };
+    let bare = Developer { index: 0, number: 1, base_type: BaseType::Byte, name: String::new(), unit: String::new() };
+    let record = Definition::of("record", &["heart_rate"]).unwrap();
+    let (own, other) = (record.clone().with_developer(&told, 1).unwrap(), record.with_developer(&bare, 1).unwrap());
+    let mut out = Writer::new(Vec::new());
+    out.write(&own.message().with("power", 7).unwrap()).unwrap();
+    let fault = out.write(&other.message()).unwrap_err();
+    assert_eq!(fault, PutFault::Described { field: "dev_0_1".to_string() });
+    assert_eq!(
+        fault.to_string(),
+        "the developer field dev_0_1 isn't described where it comes from, and is in this file"
+    );
+    out.write(&own.message().with("power", 8).unwrap()).unwrap();
+    let file = out.finish().unwrap();
+    let read = messages(&file).unwrap();
+    let values: Vec<_> = read.iter().filter_map(|message| message.value("power")).collect();
+    assert_eq!(values, [7.0, 8.0]);
+}
+
+/// A message of 255 fields whose time is that of its header, and isn't where it comes: there is no room for a timestamp. The writer goes on
+/// without it, and has begun no file where it is the first.
+#[test]
+fn no_room_for_a_timestamp() {
+    let fields: Vec<_> = (0..255).map(|number| [if number == 253 { 254 } else { number }, 1, 2]).collect();
+    let file = made::fit(&[
+        made::define(0, 20, &[[253, 4, 0x86]], &[], false),
+        made::data(0, &[&1_000_000_000_u32.to_le_bytes()]),
+        made::define(1, 21, &fields, &[], false),
+        made::data(0x80 | 1 << 5 | 7, &[&[1; 255]]),
+    ]);
+    let read = messages(&file).unwrap();
+    let both: Vec<_> = read.iter().collect();
+    assert_eq!(both[1].time().map(|time| time.seconds() & 31), Some(7));
+    let mut out = Writer::new(Vec::new());
+    let full = Err(PutFault::Refused(BlockReason::Full));
+    assert_eq!(out.copy_message(&both[1]), full);
+    assert!(matches!(out.try_finish(), Err(WriteFault::Put(PutFault::Refused(BlockReason::NoFile)))));
+    out.copy_message(&both[0]).unwrap();
+    out.copy_message(&both[1]).unwrap();
+    let later = both[0].with("timestamp", 1_000_000_100).unwrap();
+    out.write(&later).unwrap();
+    assert_eq!(out.copy_message(&both[1]), full);
+    let written = out.finish().unwrap();
+    let again = messages(&written).unwrap();
+    let times: Vec<_> = again.iter().map(|message| message.time()).collect();
+    assert_eq!(times, [both[0].time(), both[1].time(), Some(gazhdor::Time::new(1_000_000_100))]);
 }
 
 /// The true checksum of this header is 0: zeros can't stand for it, but are it.

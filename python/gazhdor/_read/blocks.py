@@ -18,7 +18,8 @@ from .._profile import number_of, see_messages
 from .._profile import Kind as Kind
 from ..errors import StreamBroken
 from .native_fields import DESCRIPTION, Natives
-from .values import Definition, told
+from .shared import definition_of
+from .values import Definition
 
 Only = Union[None, str, int, Iterable[Kind]]
 
@@ -110,7 +111,7 @@ class Walk:
         self._current[local] = self._definition(number, data), which
         self._describing.pop(local, None)
         if number == DESCRIPTION:
-            self._describing[local] = Definition(data)
+            self._describing[local] = definition_of(data, None, {})
 
     def _definition(self, number: int, data: bytes) -> Optional[Definition]:
         if not self._wants(number):
@@ -124,5 +125,5 @@ class Walk:
             if self._room < 0:
                 self._known.clear()
                 self._room = _MOST - len(data)
-            self._known[same] = Definition(data, told(self._names, number, natives, self._words))
+            self._known[same] = definition_of(data, self._names, natives, self._words)
         return self._known[same]

@@ -4,6 +4,7 @@ from collections.abc import Iterable, Iterator
 from itertools import repeat
 from typing import Any, Optional
 
+from .._byte_order import in_order
 from .._numbers import AT_MESSAGE_TIME, FLOAT, NO_TIME
 from .._profile import see_fields
 from .._sources import Source
@@ -77,7 +78,7 @@ class Part:
     def items(self, at: int, code: str) -> list[Any]:
         """The items at a place in each message."""
         items = self.view.cast(code)
-        found: list[Any] = items[at // items.itemsize :: self.length // items.itemsize].tolist()
+        found: list[Any] = in_order(items[at // items.itemsize :: self.length // items.itemsize]).tolist()
         return found
 
     @property

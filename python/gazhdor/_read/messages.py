@@ -142,7 +142,7 @@ class Message(Mapping[Key, Any]):
                 raise self._not_there(key)
             pack = packs[key]
             block[pack.begins : pack.begins + pack.size] = pack(value)
-            if pack.entry.key == 253 and pack.entry.type:
+            if pack.entry.key == 253 and pack.entry.is_stamp:
                 _tell_time(block, pack.begins)
         return Message(bytes(block), self._definition)
 
@@ -171,7 +171,7 @@ class Message(Mapping[Key, Any]):
             if wanted(Field(self._block, entry, self._definition)):
                 pack = Packer(entry)
                 block[pack.begins : pack.begins + pack.size] = pack.none
-                if entry.key == 253 and entry.type:
+                if entry.key == 253 and entry.is_stamp:
                     _tell_time(block, pack.begins)
         return Message(bytes(block), self._definition)
 

@@ -1,8 +1,9 @@
 """What reads the items of a field in the block of a message."""
+import functools
 import struct
 from collections.abc import Callable
 from decimal import Decimal
-from typing import TYPE_CHECKING, Optional, Union
+from typing import TYPE_CHECKING, Any, Optional, Union
 
 from .._numbers import BYTES, FLOAT, STRING
 
@@ -57,10 +58,35 @@ def _bytes_reader(entry: "Entry") -> Reader:
     return read
 
 
+@functools.lru_cache(None)
+def _items_of(code: str) -> Callable[[bytes, int], tuple[Any, ...]]:
+    """What reads one item of a type. There are few of these, and definitions have many fields, so each is kept."""
+    return struct.Struct("<" + code).unpack_from
+
+
 def _lone_reader(entry: "Entry") -> Reader:
+    if entry.kind == FLOAT:
+        return _float_reader(entry)
+    begins, invalid, items = entry.begins, entry.invalid, _items_of(entry.item_code)
+    if entry.is_scaled:
+        value = as_value(entry)
+
+        def read_scaled(block: bytes) -> Value:
+            item: int = items(block, begins)[0]
+            return None if item == invalid else value(item)
+
+        return read_scaled
+
+    def read_plain(block: bytes) -> Value:
+        item: int = items(block, begins)[0]
+        return None if item == invalid else item
+
+    return read_plain
+
+
+def _float_reader(entry: "Entry") -> Reader:
     begins, invalid, value, scaled = entry.begins, entry.invalid, as_value(entry), entry.is_scaled
-    items = struct.Struct("<" + entry.item_code).unpack_from
-    numbers = struct.Struct("<" + entry.float_code).unpack_from
+    items, numbers = _items_of(entry.item_code), _items_of(entry.float_code)
 
     def read_float(block: bytes) -> Value:
         if items(block, begins)[0] == invalid:
@@ -68,15 +94,7 @@ def _lone_reader(entry: "Entry") -> Reader:
         number: float = numbers(block, begins)[0]
         return value(number) if scaled else number
 
-    def read_scaled(block: bytes) -> Value:
-        item: int = items(block, begins)[0]
-        return None if item == invalid else value(item)
-
-    def read_plain(block: bytes) -> Value:
-        item: int = items(block, begins)[0]
-        return None if item == invalid else item
-
-    return read_float if entry.kind == FLOAT else read_scaled if scaled else read_plain
+    return read_float
 
 
 def _several_reader(entry: "Entry") -> Reader:

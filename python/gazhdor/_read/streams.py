@@ -1,5 +1,6 @@
 """Bytes that come in pieces: what is made of each piece, and of a source that is read piece by piece."""
 import csv
+import itertools
 import os
 import threading
 import weakref
@@ -8,7 +9,7 @@ from typing import TYPE_CHECKING, Any, Generic, Literal, Optional, TypeVar, Unio
 
 from .._answers import Answer
 from .._library import Opened, check, exact
-from .._names import Told, names_of
+from .._names import EXTRA, Told, names_of
 from .._numbers import STREAM_CHECK, STREAM_MESSAGES, STREAM_SHOW, STREAM_TABLE, STREAM_TO_CSV
 from .._sources import Source, bytes_of, go_back, opened, pieces, place_of
 from ..errors import FitError, StreamBroken, judge, judged
@@ -17,6 +18,8 @@ from .events import Events, Everything
 from .messages import Message, messages_of
 
 Made = TypeVar("Made", str, bytes, list[Message])
+
+_SHORT, _FEW = 1 << 15, 1 << 12
 
 _KINDS = {
     "check": STREAM_CHECK,
@@ -308,6 +311,39 @@ def messages(
     for blocks in each("blocks", source, partial):
         found = messages_of(blocks, walk.runs(blocks))
         yield from (message.ready() for message in found) if ready else found
+
+
+class Files:
+    """Files that are read several times, with the names of EXTRA. The first time a fault is raised, before anything
+    else. Of short ones what was made of them is kept."""
+
+    def __init__(self, data: bytes) -> None:
+        self._data, self._is_good, self._is_short = data, False, len(data) <= _SHORT
+        self._kept: Optional[list[Everything]] = None
+
+    def _first(self) -> bool:
+        """Whether they are read for the first time."""
+        was_good, self._is_good = self._is_good, True
+        return not was_good
+
+    def events(self) -> Iterator[Everything]:
+        """All that they have."""
+        if self._kept is not None:
+            return iter(self._kept)
+        found = messages(self._data, names=EXTRA, everything=True, partial=not self._first())
+        if not self._is_short:
+            return found
+        begin = list(itertools.islice(found, _FEW))
+        self._is_short = len(begin) < _FEW
+        if self._is_short:
+            self._kept = begin
+        return itertools.chain(begin, found)
+
+    def messages(self, *numbers: int) -> Iterator[Message]:
+        """The messages of some numbers."""
+        if not self._is_short:
+            return messages(self._data, only=numbers, names=EXTRA, partial=not self._first())
+        return (event for event in self.events() if type(event) is Message and event.number in numbers)
 
 
 def rows(source: Source, partial: bool) -> Iterator[list[str]]:

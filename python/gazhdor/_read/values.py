@@ -3,6 +3,7 @@ import struct
 from collections.abc import Mapping
 from typing import Any, NamedTuple, Optional, Union, overload
 
+from .._base_types import base_named
 from .._names import RESERVED, TYPES, Named, Names
 from .._numbers import (
     AT_DEFINITION_FIELDS,
@@ -26,6 +27,7 @@ from .words import choices, word_reader
 Key = Union[str, int, tuple[int, int]]
 
 _ENTRY = struct.Struct(ENTRY_FORMAT)
+_UINT32 = base_named("uint32").code
 _UNSIGNED = {1: "B", 2: "H", 4: "I", 8: "Q"}
 _FLOAT = {4: "f", 8: "d"}
 
@@ -98,6 +100,11 @@ class Entry:
     def is_number(self) -> bool:
         """Whether it is one number, and not several, a text or bytes."""
         return self.kind <= FLOAT and self.count == 1
+
+    @property
+    def is_stamp(self) -> bool:
+        """Whether the library takes it for a time, as field 253: one number of type uint32."""
+        return self.base == _UINT32 and self.width == 4 and self.count == 1
 
     @property
     def is_place(self) -> bool:
@@ -308,7 +315,11 @@ class Definition:
     @property
     def caller_names(self) -> Names:
         """What the caller says of fields of its messages."""
-        return Names({(self.number, field): tuple(named) for field, named in self._told.fields.items()})
+        names: Optional[Names] = self.made.get("names")
+        if names is None:
+            told = {(self.number, field): tuple(named) for field, named in self._told.fields.items()}
+            names = self.made["names"] = Names(told)
+        return names
 
     @property
     def names(self) -> list[str]:

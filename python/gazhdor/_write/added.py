@@ -6,6 +6,7 @@ from .._numbers import (
     AT_DEFINITION_ARCHITECTURE,
     AT_DEFINITION_LOCAL,
     AT_DEFINITION_RESERVED,
+    AT_KIND,
     AT_MESSAGE_COUNTED_ITEMS,
     AT_MESSAGE_ITEMS,
     BIG_ENDIAN,
@@ -41,7 +42,7 @@ def added(message: "Message", values: Mapping[Any, Any]) -> "Message":
     made = _wider(definition, [(shape, shape.needed(value, shape.least)[1]) for shape, value in new])
     block = empty_message(made, message.local)
     begin = AT_MESSAGE_COUNTED_ITEMS if definition.is_counted else AT_MESSAGE_ITEMS
-    block[4:begin] = message._block[4:begin]
+    block[AT_KIND:begin] = message._block[AT_KIND:begin]
     for old, entry in zip(definition.entries, (made.entries[k] for k in _places(definition, new))):
         size = old.count * old.width
         block[entry.begins : entry.begins + size] = message._block[old.begins : old.begins + size]

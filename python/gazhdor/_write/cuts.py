@@ -2,10 +2,9 @@
 from collections.abc import Callable
 from typing import Any, NamedTuple, Optional, Union
 
-from .._names import EXTRA
 from .._read.messages import Message
 from .._read.native_fields import DESCRIPTION, DEVELOPER_DATA
-from .._read.streams import messages
+from .._read.streams import Files
 from .distances import Odometer
 from .summaries import (
     ACTIVITY,
@@ -21,7 +20,6 @@ from .summaries import (
     activity_of,
     number_of,
     outlines,
-    span_of,
     sport_of,
 )
 
@@ -69,7 +67,7 @@ class Part:
         self._span, self._outline = span, outline
         self._all = Summary()
         # whether a lap, and a session, has more in the span than the second with which it ends or begins
-        self._overlap = {number: any(map(self._overlaps, told)) for number, told in outline.of.items()}
+        self._overlap = {number: any(map(self._overlaps, outline.of[number])) for number in (LAP, SESSION)}
         # of the laps and sessions that are cut, the part of each
         self._cut: dict[Inner, Summary] = {}
         for message in (*outline.of[LAP], *outline.of[SESSION]):
@@ -87,26 +85,30 @@ class Part:
         self._sports: Optional[dict[Any, bool]] = None
         self._made: Optional[dict[int, Optional[Anew]]] = None
 
+    def _span_of(self, message: Message) -> tuple[int, int]:
+        return self._outline.spans[message.place]
+
     def _overlaps(self, message: Message) -> bool:
-        return self._span.overlaps(*(span_of(message) or (0, 0)))
+        return self._span.overlaps(*self._span_of(message))
 
     def _is_in(self, message: Message) -> bool:
         """Whether a lap or a session has a part in the span: the second with which it begins or ends, if that is all
         that there is of any."""
         if self._overlap[message.number]:
             return self._overlaps(message)
-        return self._span.touches(*(span_of(message) or (0, 0)))
+        return self._span.touches(*self._span_of(message))
 
     def _is_cut(self, message: Message) -> bool:
-        return self._is_in(message) and not self._span.has_all(*(span_of(message) or (0, 0)))
+        return self._is_in(message) and not self._span.has_all(*self._span_of(message))
 
     def _inner(self, message: Message) -> Inner:
-        first, last = span_of(message) or (0, 0)
+        first, last = self._span_of(message)
         return Inner(first if self._span.has(first) else None, last if self._span.has(last) else None)
 
     def take(self, record: Message) -> None:
         """Takes in a record."""
-        time = self._record_time = self._record_time if record.seconds is None else record.seconds
+        seconds = record.seconds
+        time = self._record_time = self._record_time if seconds is None else seconds
         if time is None or not self._span.has(time):
             return
         self._all.take(record)
@@ -125,8 +127,9 @@ class Part:
         number = message.number
         if number in _STAYS:
             return message
-        self._time = message.seconds if message.seconds is not None else self._time
-        if number in (SPORT, ACTIVITY) or number in (LAP, SESSION) and span_of(message):
+        seconds = message.seconds
+        self._time = self._time if seconds is None else seconds
+        if number in (SPORT, ACTIVITY) or message.place in self._outline.spans:
             made = self._of_summaries()
             return made.get(message.place) if message.place in made else message
         if number == _ZONES and not self._is_of_whole(message):
@@ -138,8 +141,10 @@ class Part:
 
     def _stays(self, message: Message, time: int) -> bool:
         """Whether a message stays that has this time; one that sums up a time of its own, where all of that does."""
+        if not self._span.has(time):
+            return False
         start = message.get("start_time")
-        return self._span.has(time) and (not isinstance(start, int) or self._span.has(start))
+        return not isinstance(start, int) or self._span.has(start)
 
     def _of_record(self, record: Message) -> Message:
         """A record that stays. Where some before it don't, distances begin at 0 again."""
@@ -172,7 +177,7 @@ class Part:
         return self._made
 
     def _is_whole(self, message: Message) -> bool:
-        return self._span.has_all(*(span_of(message) or (0, 0)))
+        return self._span.has_all(*self._span_of(message))
 
     def _lap(self, lap: Message) -> Optional[Anew]:
         """What a lap comes to in the span."""
@@ -192,10 +197,10 @@ class Part:
             return None
         first, last = self._inner(session)
         start, end = summary.start if first is None else first, summary.end if last is None else last
-        begin, over = span_of(session) or (0, 0)
-        laps = [lap for lap in self._outline.of[LAP] if begin <= (span_of(lap) or (0, 0))[0] < max(over, begin + 1)]
+        begin, over = self._span_of(session)
+        laps = [lap for lap in self._outline.of[LAP] if begin <= self._span_of(lap)[0] < max(over, begin + 1)]
         timers = {lap.place: self._timer(lap, made) for lap in laps if made.get(lap.place, lap) is not None}
-        ran = sum(timers.values()) if timers else self._outline.timer.ran(start, end)
+        ran = sum(timers.values()) + self._outline.timer.ran(self._laps_end(laps, start, end) if timers else start, end)
         counts = {}
         if timers:
             index = next(lap.get("message_index", 0) for lap in laps if lap.place in timers)
@@ -204,17 +209,22 @@ class Part:
         values = {**summary.told(start, end, ran), **own, **sport_of(session), **counts}
         return Anew("session", {**values, **self._calories(session)})
 
+    def _laps_end(self, laps: list[Message], start: int, end: int) -> int:
+        """Where the last one of some laps ends in a span."""
+        spans = (self._span_of(lap) for lap in laps)
+        return max(start, *(min(last, end) for first, last in (*spans, (start, start)) if first <= end))
+
     def _timer(self, message: Message, made: dict[int, Optional[Anew]]) -> float:
         """How long the timer ran in a lap, or a session, that stays."""
         anew = made.get(message.place)
         told = anew.values["total_timer_time"] if anew else number_of(message, "total_timer_time")
-        return float(self._outline.timer.ran(*(span_of(message) or (0, 0))) if told is None else told)
+        return float(self._outline.timer.ran(*self._span_of(message)) if told is None else told)
 
     def _calories(self, message: Message) -> dict[str, int]:
         """The calories of a lap or a session that is cut: as many as its part of the time in which the timer ran, so
         that those of all parts are those of the whole."""
         told, timer = message.get(_CALORIES), self._outline.timer
-        first, last = span_of(message) or (0, 0)
+        first, last = self._span_of(message)
         whole = timer.ran(first, last)
         if not isinstance(told, int):
             return {}
@@ -244,7 +254,7 @@ class Part:
 
     def _activity(self, made: dict[int, Optional[Anew]], told: Message) -> Anew:
         stay = [(of, made.get(of.place)) for of in self._outline.of[SESSION] if made.get(of.place, of) is not None]
-        ends = [anew.values["timestamp"] if anew else (span_of(of) or (0, 0))[1] for of, anew in stay]
+        ends = [anew.values["timestamp"] if anew else self._span_of(of)[1] for of, anew in stay]
         timers = [self._timer(of, made) for of, _ in stay]
         return activity_of(max(ends, default=self._all.end), timers, self._outline.zone, told)
 
@@ -275,16 +285,19 @@ def _own(message: Message, usual: dict[str, int]) -> dict[str, int]:
 class Cut:
     """The parts of the files of a chain."""
 
-    def __init__(self, data: bytes, span: Span, changed: Callable[[Message], Message]) -> None:
+    def __init__(self, files: Files, span: Span, changed: Callable[[Message], Message]) -> None:
         """`changed` is what records say when they are summed up."""
-        self._span, self._outlines = span, outlines(data)
+        self._span, self._outlines = span, outlines(files)
         self._parts = {number: Part(span, outline) for number, outline in self._outlines.items()}
-        for record in messages(data, only=RECORD, names=EXTRA):
+        for record in files.messages(RECORD):
             self.of(record.file).take(changed(record))
 
     def of(self, file: int) -> Part:
         """The part of a file, by its number."""
-        return self._parts.setdefault(file, Part(self._span, Outline()))
+        part = self._parts.get(file)
+        if part is None:
+            part = self._parts[file] = Part(self._span, Outline())
+        return part
 
     @property
     def is_empty(self) -> bool:

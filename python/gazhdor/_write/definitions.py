@@ -4,16 +4,13 @@ from collections.abc import Iterable
 from typing import NamedTuple, Optional
 
 from .._base_types import Base, base_of
-from .._names import Names
 from .._numbers import (
     AT_DEFINITION_FIELDS,
-    AT_DEFINITION_MESSAGE,
+    AT_DEFINITION_LOCAL,
     AT_DEFINITION_MESSAGE_LENGTH,
     AT_DEFINITION_NAME,
     AT_ENTRY_NAME,
-    AT_ENTRY_UNIT,
     AT_HEADER_REST,
-    AT_KIND,
     AT_MESSAGE_COUNTED_ITEMS,
     AT_MESSAGE_ITEMS,
     BYTES,
@@ -32,7 +29,7 @@ from .._numbers import (
     SAYS_DEVELOPERS,
 )
 from .._profile import Info, info_of, name_of
-from .._read.values import Definition, Key, first_entry, told
+from .._read.values import Definition, Key, first_entry
 
 _HEADER, _DEFINITION = struct.Struct(HEADER_FORMAT), struct.Struct(DEFINITION_FORMAT)
 _ENTRY, _MESSAGE = struct.Struct(ENTRY_FORMAT), struct.Struct(MESSAGE_FORMAT)
@@ -40,9 +37,7 @@ _COUNTS = struct.Struct("<HH").unpack_from  # of fields, and of developer fields
 _NO_INFO = Info("", "", 1, 0, "")
 END = struct.pack("<IB", LEAST_BLOCK, FILE_END).ljust(LEAST_BLOCK, b"\0")
 KINDS = ("none", "zeros", "there")
-_MOST_KNOWN = 1 << 20  # So many bytes of definitions are kept.
 _MOST_LETTERS = 1 << 12
-_USUAL = 128  # An entry with a name and a unit has fewer bytes, unless somebody wants it to have many.
 
 
 class FieldDefinition(NamedTuple):
@@ -128,31 +123,9 @@ def definition_block(message: int, forms: Iterable[Form], kept: Kept = Kept(), i
     return _DEFINITION.pack(*front, *counts) + rest
 
 
-class Layouts:
-    """What is known of definitions that are written, by their fields, so that one which comes again isn't looked into
-    again."""
-
-    def __init__(self, names: Optional[Names]) -> None:
-        self._names = names
-        self._known: dict[bytes, Definition] = {}
-        self._room = _MOST_KNOWN
-
-    def of(self, block: bytes) -> Definition:
-        """The definition of a block. It may be that of another local message type or architecture."""
-        said = block[AT_DEFINITION_MESSAGE:]
-        known = self._known.get(said)
-        if known is None:
-            self._room -= len(block)
-            if self._room < 0:
-                self._known.clear()
-                self._room = _MOST_KNOWN - len(block)
-            known = self._known[said] = Definition(block, told(self._names, int.from_bytes(said[:2], "little"), {}))
-        return known
-
-
-def empty_message(definition: Definition, local: int) -> bytearray:
+def empty_message(definition: Definition, local: int = 0) -> bytearray:
     """The block of a message whose fields have no values."""
-    length = message_length(definition)
+    length: int = struct.unpack_from("<I", definition.data, AT_DEFINITION_MESSAGE_LENGTH)[0]
     block = bytearray(length)
     _MESSAGE.pack_into(block, 0, length, MESSAGE, 0, local, NO_OFFSET, 0, NO_TIME, 0, 0, NO_TIME)
     for entry in definition.entries:
@@ -162,26 +135,15 @@ def empty_message(definition: Definition, local: int) -> bytearray:
     return block
 
 
-def message_length(definition: Definition) -> int:
-    """How long the blocks of its messages are."""
-    length: int = struct.unpack_from("<I", definition.data, AT_DEFINITION_MESSAGE_LENGTH)[0]
-    return length
-
-
-def slim(data: bytes) -> bytes:
-    """The block of a definition message, without names and units where these are so long that many such blocks would
-    take much memory: no file is made of them."""
-    fields, developers = _COUNTS(data, AT_DEFINITION_FIELDS)
-    if len(data) <= 300 + _USUAL * (fields + developers):
+def block_for(definition: Definition, local: int) -> bytes:
+    """The block of a definition, for a local message type."""
+    data, at = definition.data, AT_DEFINITION_LOCAL
+    if data[at] == local:
         return data
-    at = first_entry(data)
-    entries: list[bytes] = []
-    for _ in range(fields + developers):
-        length: int = struct.unpack_from("<H", data, at)[0]
-        entries.append(struct.pack("<H", AT_ENTRY_NAME) + data[at + AT_ENTRY_UNIT : at + AT_ENTRY_NAME])
-        at += length
-    made = data[AT_KIND:AT_DEFINITION_NAME] + bytes(8) + b"".join(entries)
-    return struct.pack("<I", AT_KIND + len(made)) + made
+    made: dict[int, bytes] = definition.made.setdefault("locals", {})
+    if local not in made:
+        made[local] = data[:at] + bytes([local]) + data[at + 1 :]
+    return made[local]
 
 
 def fields_of_block(data: bytes) -> tuple[FieldDefinition, ...]:

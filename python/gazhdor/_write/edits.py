@@ -5,24 +5,48 @@ from collections.abc import Iterable
 from typing import NamedTuple, Optional, Union
 
 from .._names import EXTRA
-from .._numbers import AT_MESSAGE_BITS, AT_MESSAGE_OFFSET, NO_TIME, TOLD_HEADER_TIME, TOLD_TIME
-from .._profile import UnknownName, fields_of, number_of, profile
+from .._numbers import (
+    AT_MESSAGE_BITS,
+    AT_MESSAGE_CYCLES,
+    AT_MESSAGE_DISTANCE,
+    AT_MESSAGE_OFFSET,
+    AT_MESSAGE_POWER,
+    AT_MESSAGE_SPEED,
+    NO_OFFSET,
+    NO_TIME,
+    TOLD_CYCLES,
+    TOLD_DISTANCE,
+    TOLD_HEADER_TIME,
+    TOLD_POWER,
+    TOLD_SPEED,
+    TOLD_TIME,
+)
+from .._profile import UnknownName, number_of, profile
 from .._read.events import FileEnd
 from .._read.messages import Message
-from .._read.streams import messages
+from .._read.streams import Files, messages
 from .._read.values import Definition, Entry
 from .._sources import Source, bytes_of
 from .._times import EPOCH, HEADER_TIME, OWN_TIME, SYSTEM_TIMES
 from ..errors import WrongValue
 from .cuts import Cut, Span
+from .field_shapes import field_numbers
 from .items import Packer
 from .places import is_place
 from .sinks import Sink
-from .summaries import Anew
+from .summaries import RECORD, Anew
 from .writer import Writer
 
 _POSITION = "position"
 _TIMES = ("timestamp", "start_time", "local_timestamp")
+_TIMESTAMP = 253
+# Of fields of records, by their numbers, what a reader tells of them beside their values: speed and sums, each by its
+# bit and its place in the block.
+_TOLD = {
+    8: [(TOLD_SPEED, AT_MESSAGE_SPEED), (TOLD_DISTANCE, AT_MESSAGE_DISTANCE)],
+    18: [(TOLD_CYCLES, AT_MESSAGE_CYCLES)],
+    28: [(TOLD_POWER, AT_MESSAGE_POWER)],
+}
 
 
 class Change(NamedTuple):
@@ -64,10 +88,13 @@ def _known_names() -> set[str]:
 
 
 class _Plan(NamedTuple):
-    """What is emptied in the messages of a definition, by what it is called, and which of their fields are times."""
+    """What is emptied in the messages of a definition, by what it is called, which of their fields are times, whether
+    times in headers are left out, and what a reader tells of the fields that are emptied."""
 
     dropped: list[tuple[str, Packer]]
     times: list[Packer]
+    drops_headers: bool
+    told: list[tuple[int, int]]
 
 
 class _Editor:
@@ -84,12 +111,16 @@ class _Editor:
         of, plan = definition.made.get("edit", (None, None))
         if of is not self:
             dropped: list[tuple[str, Packer]] = []
+            told: list[tuple[int, int]] = []
             for entry in definition.entries:
                 if self._drops(definition, entry):
                     pack = Packer(entry)
                     dropped.append((pack.label, pack))
+                    if definition.number == RECORD and entry.index is None:
+                        told += _TOLD.get(entry.number, ())
             times = [Packer(entry) for entry in definition.entries if entry.type and not entry.is_scaled]
-            plan = _Plan(dropped, times)
+            of_header = _Named(definition.name, definition.number, "timestamp", _TIMESTAMP)
+            plan = _Plan(dropped, times, any(map(of_header.is_of, self._change.drop)), told)
             definition.made["edit"] = self, plan
         found: _Plan = plan
         return found
@@ -107,24 +138,49 @@ class _Editor:
         """A message that was made anew, of records whose fields are emptied. Its own are left out, and its times
         moved."""
         number = profile()[made.message].number
-        fields = fields_of(number)
+        fields = field_numbers(number, EXTRA)
         named = ((name, _Named(made.message, number, name, fields[name])) for name in made.values)
         stay = [name for name, told in named if not any(map(told.is_of, self._change.drop))]
         shift = self._change.shift
         times = {name: _later(made.values[name], shift, name) for name in _TIMES if name in stay}
         return Anew(made.message, {**{name: made.values[name] for name in stay}, **times})
 
+    def untold(self, message: Message) -> Message:
+        """A message of which no sum is told that a reader makes of a field which is emptied."""
+        told = self._plan(message._definition).told if self._change.drop else []
+        if not told:
+            return message
+        block = bytearray(message._block)
+        _untell(block, told)
+        return Message(bytes(block), message._definition)
+
     def changed(self, message: Message) -> Message:
+        if not self._change.drop and not self._change.shift:
+            return message
         definition = message._definition
         plan, block = self._plan(definition), bytearray(message._block)
         for label, pack in plan.dropped:
             if block[pack.begins : pack.begins + pack.size] != pack.none:
                 block[pack.begins : pack.begins + pack.size] = pack.none
-                named = definition.name or f"message_{definition.number}", label
-                self.counts[named] = self.counts.get(named, 0) + 1
+                self._count(definition, label)
+        _untell(block, plan.told)
+        if plan.drops_headers and block[AT_MESSAGE_OFFSET] != NO_OFFSET:
+            block[AT_MESSAGE_OFFSET] = NO_OFFSET
+            self._count(definition, "timestamp")
         if self._change.shift:
             self._move(block, plan.times)
         return Message(bytes(block), definition)
+
+    def put(self, found: Union[Message, Anew, None], out: Writer) -> None:
+        """Writes what stands where a message was, with the changes."""
+        if isinstance(found, Anew):
+            self.anew(found).write(out)
+        elif found is not None:
+            out.copy(self.changed(found))
+
+    def _count(self, definition: Definition, label: str) -> None:
+        named = definition.name or f"message_{definition.number}", label
+        self.counts[named] = self.counts.get(named, 0) + 1
 
     def _move(self, block: bytearray, times: list[Packer]) -> None:
         shift = self._change.shift
@@ -145,6 +201,12 @@ class _Editor:
                 raise UnknownName("no message is named", message, [*profile(), *EXTRA.messages])
             if not field.isdecimal() and field not in _known_names():
                 raise UnknownName("neither the profile nor the file has a field", field, _known_names())
+
+
+def _untell(block: bytearray, told: list[tuple[int, int]]) -> None:
+    for bit, place in told:
+        block[AT_MESSAGE_BITS] &= ~bit
+        block[place : place + 8] = b"\xff" * 8
 
 
 def _moved(item: bytearray, shift: int, field: str) -> bytes:
@@ -200,22 +262,22 @@ def _second(time: Union[None, int, str, datetime.datetime]) -> Optional[int]:
 
 def change(source: Source, sink: Sink, change: Change) -> Counts:
     """Does what `edit` says."""
-    editor = _Editor(change)
+    editor, cut = _Editor(change), None
     if change.is_cut:
-        source = bytes_of(source)
-        cut = Cut(source, Span(change.begin, change.end), _Editor(change._replace(shift=0)).changed)
+        files = Files(bytes_of(source))
+        cut = Cut(files, Span(change.begin, change.end), _Editor(change._replace(shift=0)).changed)
         if cut.is_empty:
             raise ValueError("no record has a time in that span")
+    events = messages(source, names=EXTRA, everything=True) if cut is None else files.events()
     with Writer(sink, EXTRA) as out:
-        for event in messages(source, names=EXTRA, everything=True):
-            if change.is_cut and isinstance(event, FileEnd):
+        for event in events:
+            if isinstance(event, Message):
+                editor.put(event if cut is None else cut.of(event.file).kept(editor.untold(event)), out)
+                continue
+            if cut is not None and isinstance(event, FileEnd):
                 for anew in cut.of(event.file).rest():
-                    editor.anew(anew).write(out)
-            found = cut.of(event.file).kept(event) if change.is_cut and isinstance(event, Message) else event
-            if isinstance(found, Anew):
-                editor.anew(found).write(out)
-            elif found is not None:
-                out.copy(editor.changed(found) if isinstance(found, Message) else found)
+                    editor.put(anew, out)
+            out.copy(event)
         editor.see_met()
     return editor.counts
 

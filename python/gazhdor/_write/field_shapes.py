@@ -1,4 +1,5 @@
 """What a caller says of a message that is to be written: its fields, and how many items each has."""
+import functools
 from collections.abc import Iterable
 from typing import Any, NamedTuple, Optional, Union
 
@@ -77,7 +78,8 @@ def message_number(message: Kind, names: Optional[Names]) -> int:
     return number
 
 
-def _known(message: int, names: Optional[Names]) -> dict[str, int]:
+@functools.lru_cache(maxsize=64)
+def field_numbers(message: int, names: Optional[Names]) -> dict[str, int]:
     """The numbers of the fields of a message that have names."""
     own = {number: named.name for number, named in names.fields(message).items() if named.name} if names else {}
     known = {name: number for name, number in fields_of(message).items() if number not in own}
@@ -103,10 +105,19 @@ class Shapes:
     def all(self, told: Union[str, Iterable[Spec]]) -> list[Shape]:
         """The shapes of fields, the developer fields last."""
         specs: list[Spec] = [*told.split()] if isinstance(told, str) else list(told)
+        known = field_numbers(self._message, self._names) if self._developers else specs
+        if all(type(spec) is str and spec in known for spec in specs):
+            return list(_named(self._message, self._names, tuple(specs)))
+        return self._all(specs)
+
+    def _all(self, specs: list[Spec]) -> list[Shape]:
         shapes = [self.one(spec) for spec in specs]
         keys = [shape.key for shape in shapes]
         if len(set(keys)) < len(keys):
             raise ValueError(f"a field is named twice: {label(next(key for key in keys if keys.count(key) > 1))}")
+        developers = sum(shape.developer is not None for shape in shapes)
+        if developers > 255 or len(shapes) - developers > 255:
+            raise ValueError("a definition message has at most 255 fields, and as many developer fields")
         return sorted(shapes, key=lambda shape: shape.developer is not None)
 
     def one(self, spec: Spec) -> Shape:
@@ -133,7 +144,7 @@ class Shapes:
         found: Optional[DeveloperField] = key if isinstance(key, DeveloperField) else None
         if found is None and isinstance(key, (str, tuple)):
             found = self._developers.get(key)  # type: ignore[arg-type]
-        if found is None or isinstance(key, str) and key in _known(self._message, self._names):
+        if found is None or isinstance(key, str) and key in field_numbers(self._message, self._names):
             if isinstance(key, tuple):
                 raise UnknownName("the file describes no developer field", f"{key!r:.40}", self._described())
             return None
@@ -147,7 +158,7 @@ class Shapes:
 
     def _field(self, key: Any, told: Any) -> Shape:
         if isinstance(key, str):
-            known = _known(self._message, self._names)
+            known = field_numbers(self._message, self._names)
             if key not in known:
                 of = name_of(self._message) or f"message {self._message}"
                 raise UnknownName(
@@ -160,6 +171,12 @@ class Shapes:
         if base is None:
             raise ValueError(f"nobody knows the base type of {label(key)}: give it, as ({key!r}, 'uint16')")
         return Shape(number, base, None, number)
+
+
+@functools.lru_cache(maxsize=256)
+def _named(message: int, names: Optional[Names], fields: tuple[str, ...]) -> list[Shape]:
+    """The shapes of fields of the profile, or of the caller's, that are named."""
+    return Shapes(message, names, {})._all([*fields])
 
 
 def _is_numbers(spec: tuple[Any, ...]) -> bool:

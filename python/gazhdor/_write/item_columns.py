@@ -4,6 +4,7 @@ import datetime
 from collections.abc import Mapping
 from typing import Any, Optional
 
+from .._byte_order import in_order
 from .._numbers import FLOAT, STRING
 from .._times import EPOCH, SYSTEM_TIMES
 from ..errors import WrongValue
@@ -55,7 +56,7 @@ def put_column(block: bytearray, length: int, pack: Packer, column: Any) -> None
     if items is None:
         # Times of an array stay such, which as plain numbers would be of any unit.
         is_plain = not isinstance(column, list) and column.dtype.kind != "M"
-        items = memoryview(_items_of_list(pack, column.tolist() if is_plain else list(column)))
+        items = _items_of_list(pack, column.tolist() if is_plain else list(column))
     view = memoryview(block).cast(entry.float_code)
     view[pack.begins // entry.width :: length // entry.width] = items
     view.release()
@@ -73,7 +74,8 @@ def _put_bytes(block: bytearray, length: int, pack: Packer, column: Any) -> None
         block[pack.begins + at :: length] = made[at :: pack.size]
 
 
-def _items_of_list(pack: Packer, column: list[Any]) -> Any:
+def _items_of_list(pack: Packer, column: list[Any]) -> memoryview:
+    """The items of a column, as a block has them."""
     entry = pack.entry
     column = [
         _lone(pack, value, row) if isinstance(value, (list, tuple)) else value for row, value in enumerate(column)
@@ -82,11 +84,11 @@ def _items_of_list(pack: Packer, column: list[Any]) -> Any:
         made = bytearray()
         for row, value in enumerate(column):
             made += _of_row(pack, pack, _none_of_nan(value), row)
-        return array.array(entry.float_code, bytes(made))
+        return memoryview(made).cast(entry.float_code)
     items = _quick(pack, column)
     if not items:
         items = [_of_row(pack, pack.item, _none_of_nan(value), row) for row, value in enumerate(column)]
-    return array.array(entry.item_code, items)
+    return in_order(memoryview(array.array(entry.item_code, items)))
 
 
 def _lone(pack: Packer, items: Any, row: int) -> Any:

@@ -1,26 +1,27 @@
 """Files that are joined: as a chain, or as one activity."""
 from collections.abc import Iterable
-from typing import Optional
+from typing import Any, Optional
 
 from .._names import EXTRA
 from .._read.events import FileEnd, FileHeader
 from .._read.messages import Message
-from .._read.native_fields import DESCRIPTION
-from .._read.streams import messages
-from .._read.values import Definition, Key, label
+from .._read.streams import Files, messages
 from .._sources import Source, bytes_of
+from .describing import NotDescribed
 from .distances import Odometer
 from .sinks import Sink
 from .summaries import (
     ACTIVITY,
     ADDED,
+    INDEX,
     LAP,
-    LAP_ENDS,
+    LENGTH,
     RECORD,
     SESSION,
     SESSION_ENDS,
     Anew,
     Outline,
+    Ride,
     Summary,
     activity_of,
     outlines,
@@ -30,7 +31,8 @@ from .summaries import (
 from .writer import Writer
 
 _FILE_ID = (0, 49)  # file_id, file_creator
-_INDEX = 254
+_ZONES, _OF, _OF_INDEX = 216, 0, 1  # time_in_zone: what it is of, and the number of that
+_FIRST_LENGTH = 35  # of a lap
 
 
 def join(sources: Iterable[Source], sink: Sink, one: bool = False) -> None:
@@ -42,7 +44,7 @@ def join(sources: Iterable[Source], sink: Sink, one: bool = False) -> None:
         if one:
             joined = _Joined(out)
             for number, source in enumerate(sources, 1):
-                joined.add(bytes_of(source), number)
+                joined.add(Files(bytes_of(source)), number)
             joined.end()
             return
         for source in sources:
@@ -50,46 +52,28 @@ def join(sources: Iterable[Source], sink: Sink, one: bool = False) -> None:
                 out.copy(event)
 
 
-class _Described:
-    """Which developer fields the file at hand describes, and those before it."""
-
-    def __init__(self) -> None:
-        self._before: set[Key] = set()
-        self._here: set[Key] = set()
-
-    def begin(self) -> None:
-        self._before |= self._here
-        self._here = set()
-
-    def see(self, message: Message, number: int) -> None:
-        """Raises what is wrong with a developer field that would be read as another file's."""
-        if message.number == DESCRIPTION:
-            index, field = message.get(0), message.get(1)
-            if isinstance(index, int) and isinstance(field, int):
-                self._here.add((index, field))
-        definition: Definition = message._definition
-        if definition.made.get("joined") == message.file:
-            return
-        definition.made["joined"] = message.file
-        for entry in definition.entries:
-            if entry.index is not None and entry.key in self._before and entry.key not in self._here:
-                what = f"file {number} doesn't describe its developer field {label(entry.key)}"
-                raise ValueError(f"{what}, and would get the name and the type of one of a file before it")
-
-
-class _Ride:
+class _Added(Ride):
     """A file that is added: what it says of itself, what its records come to, and how their distances move."""
 
     def __init__(self, number: int, told: Outline, odometer: Optional[Odometer], before: Optional[int]) -> None:
-        self.number, self.told, self.odometer, self.before = number, told, odometer, before
-        self.records = Summary()
+        super().__init__(told)
+        self.number, self.odometer, self.before = number, odometer, before
+        # of its laps and of its lengths the numbers that they get, by those that they have
+        self.numbers: dict[int, dict[Any, int]] = {}
+
+    def count(self, counts: dict[int, int]) -> None:
+        """Gives its laps and lengths the numbers after so many of each."""
+        for kind, indices in self.told.indices.items():
+            new = range(counts[kind], counts[kind] + len(indices))
+            # of several with one number the first counts
+            self.numbers[kind] = dict(reversed([*zip(indices, new)]))
 
     def moved(self, record: Message) -> Message:
         """A record as it goes on from the file before."""
         if self.before is not None and record.seconds is not None and record.seconds < self.before:
             what = f"file {self.number} begins before the one before it ends"
             raise ValueError(f"{what}: name them in the order of their times")
-        self.records.take(record)
+        self.take(record)
         return self.odometer.moved(record) if self.odometer else record
 
 
@@ -97,19 +81,19 @@ class _Joined:
     """Puts one file after another into an activity."""
 
     def __init__(self, out: Writer) -> None:
-        self._out, self._all, self._described = out, Summary(), _Described()
+        self._out, self._all = out, Summary()
         self._first: Optional[Outline] = None
-        # how many laps there are, the first and the last second of all, and how long the timer ran
-        self._laps = 0
+        # how many laps and lengths there are, the first and the last second of all, and how long the timer ran
+        self._counts = {LAP: 0, LENGTH: 0}
         self._spans: list[tuple[int, int]] = []
         self._ran = 0.0
         self._added: dict[str, Optional[float]] = dict.fromkeys(ADDED, 0)
 
-    def add(self, data: bytes, number: int) -> None:
+    def add(self, files: Files, number: int) -> None:
         """Adds the files of a source, which has that number."""
-        told = outlines(data)
-        ride: Optional[_Ride] = None
-        for event in messages(data, names=EXTRA, everything=True):
+        told = outlines(files)
+        ride: Optional[_Added] = None
+        for event in files.events():
             if isinstance(event, FileHeader):
                 ride = self._begin(event, told.get(event.file, Outline()), number)
             elif isinstance(event, FileEnd) and ride:
@@ -119,44 +103,53 @@ class _Joined:
             else:
                 self._out.copy(event)
 
-    def _begin(self, header: FileHeader, told: Outline, number: int) -> _Ride:
+    def _begin(self, header: FileHeader, told: Outline, number: int) -> _Added:
         before = self._all.end if self._all.start is not None else None
         if self._first is None:
             self._out.copy(header)
-            self._first = told
-            return _Ride(number, told, None, before)
-        self._described.begin()
-        return _Ride(number, told, Odometer(self._all.last_distance), before)
+        ride = _Added(number, told, None if self._first is None else Odometer(self._all.last_distance), before)
+        self._first = self._first or told
+        ride.count(self._counts)
+        return ride
 
-    def _put(self, message: Message, ride: _Ride) -> None:
-        """Writes what stays of a file, each lap with its number among all."""
-        if message.number in (SESSION, ACTIVITY) or message.number in _FILE_ID and ride.odometer:
+    def _put(self, message: Message, ride: _Added) -> None:
+        """Writes what stays of a file: not what tells more of its sessions."""
+        is_of_session = message.number == _ZONES and message.get(_OF) == SESSION
+        if message.number in (SESSION, ACTIVITY) or message.number in _FILE_ID and ride.odometer or is_of_session:
             return
-        self._described.see(message, ride.number)
-        if message.number == LAP:
-            message = message.replace({_INDEX: self._laps}) if _INDEX in message else message
-            self._laps += 1
-        elif message.number == RECORD:
+        if message.number == RECORD:
             message = ride.moved(message)
             self._all.take(message)
-        self._out.copy(message)
+        try:
+            self._out.copy(self._numbered(message, ride))
+        except NotDescribed as fault:
+            what = f"file {ride.number} doesn't describe its developer field {fault.field}"
+            raise ValueError(f"{what}, and would get the name and the type of one of a file before it") from None
 
-    def _end(self, ride: _Ride) -> None:
-        """Takes in what a file comes to. It gets a lap where it has none."""
-        records, told = ride.records, ride.told
+    def _numbered(self, message: Message, ride: _Added) -> Message:
+        """A lap or a length with its number among all, where it has one, and what names one by its number."""
+        kind, index = message.number, message._definition.by_key.get(INDEX)
+        if kind in self._counts:
+            message = message.replace({INDEX: self._counts[kind]}) if index and index.is_number else message
+            self._counts[kind] += 1
+        if kind == LAP and message.get(_FIRST_LENGTH) is not None:
+            return _naming(message, _FIRST_LENGTH, ride.numbers[LENGTH])
+        if kind == _ZONES and message.get(_OF) == LAP and message.get(_OF_INDEX) is not None:
+            return _naming(message, _OF_INDEX, ride.numbers[LAP])
+        return message
+
+    def _end(self, ride: _Added) -> None:
+        """Takes in what a file comes to. Records that are in no lap become one."""
+        records, told = ride.all, ride.told
         if records.start is None:
             return
-        self._spans.append((records.start, records.end))
-        if told.of[LAP]:
-            spans = [(lap, span_of(lap) or (0, 0)) for lap in told.of[LAP]]
-            self._spans += (span for _, span in spans)
-            self._ran += sum(timer_of(lap, told.timer.ran(*span)) for lap, span in spans)
-        else:
-            ran = told.timer.ran(records.start, records.end)
-            lap = records.lap(records.start, records.end, ran)
-            Anew("lap", {"message_index": self._laps, **lap, **LAP_ENDS}).write(self._out)
-            self._laps += 1
-            self._ran += ran
+        self._spans += [(records.start, records.end), *ride.spans]
+        self._ran += sum(timer_of(lap, told.timer.ran(*(span_of(lap) or (0, 0)))) for lap in told.of[LAP])
+        last = ride.last_lap(self._counts[LAP])
+        if last:
+            last.write(self._out)
+            self._counts[LAP] += 1
+            self._ran += last.values["total_timer_time"]
         for name, sum_ in self._added.items():
             more = told.added(name)
             self._added[name] = None if sum_ is None or more is None else sum_ + more
@@ -166,10 +159,15 @@ class _Joined:
         if self._first is None or self._all.start is None:
             return
         start, end = min(first for first, _ in self._spans), max(last for _, last in self._spans)
-        counts = {"first_lap_index": 0, "num_laps": self._laps}
+        counts = {"first_lap_index": 0, "num_laps": self._counts[LAP]}
         values = {"message_index": 0, **self._all.told(start, end, self._ran), **self._first.sport, **counts}
         Anew("session", {**values, **_whole(self._added), **SESSION_ENDS}).write(self._out)
         activity_of(end, [self._ran], self._first.zone).write(self._out)
+
+
+def _naming(message: Message, field: int, numbers: dict[Any, int]) -> Message:
+    """A message that names another one by the number that this gets; it has none where there is no such one."""
+    return message.replace({field: numbers.get(message.get(field))})
 
 
 def _whole(values: dict[str, Optional[float]]) -> dict[str, int]:

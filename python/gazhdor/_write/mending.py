@@ -4,6 +4,7 @@ import struct
 from collections.abc import Iterable, Iterator
 from typing import Optional, Union
 
+from .._byte_order import in_order
 from .._numbers import AT_PLACE, FILE_END
 from .._read.streams import each, found
 from .._sources import Source, bytes_of
@@ -30,7 +31,7 @@ def checksum(*parts: Union[bytes, memoryview]) -> bytes:
     total, sums = 0, _sums()
     for part in parts:
         words = memoryview(part)[: len(part) // 2 * 2].cast("B").cast("H")
-        for word in words:
+        for word in in_order(words):
             total = sums[total ^ word]
         if len(part) % 2:
             total = _after(total, part[-1])

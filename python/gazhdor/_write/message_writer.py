@@ -1,17 +1,20 @@
 """Messages of one kind that are written."""
+import functools
 from collections.abc import Mapping
 from typing import TYPE_CHECKING, Any, Optional
 
-from .._numbers import AT_MESSAGE_LOCAL, AT_MESSAGE_OFFSET, NO_OFFSET
+from .._names import Names
+from .._numbers import AT_MESSAGE_BITS, AT_MESSAGE_OFFSET, NO_OFFSET, TOLD_HEADER_TIME
 from .._profile import UnknownName
-from .._read.native_fields import OF_DEVELOPERS
+from .._read.shared import definition_of
 from .._read.values import Definition as Known
-from .._times import NO_TIME_BYTES
+from .._times import HEADER_TIME, NO_TIME_BYTES
 from ..errors import WrongValue
 from .definitions import Kept, definition_block, empty_message
 from .field_shapes import DeveloperField, Shape
 from .item_columns import is_of_numbers, listed, put_column
 from .items import Packer, packers
+from .put import LOST, Blocks
 from .words import numbered, numbered_columns
 
 if TYPE_CHECKING:
@@ -21,6 +24,55 @@ _OFFSET = ".time_offset"
 _LONE = (int, float, type(None))
 _TEXTS = {str, list, tuple}
 _MOST = 64  # So many layouts are kept, of fields that have now more items and now fewer.
+Sizes = tuple[int, ...]
+
+
+class Layout:
+    """The fields of messages in their sizes: the block of the definition, what it says, and what makes blocks of
+    messages."""
+
+    __slots__ = ("sizes", "block", "known", "places", "empty", "_packers", "_time_at")
+
+    def __init__(self, sizes: Sizes, block: bytes, known: Known) -> None:
+        self.sizes, self.block, self.known = sizes, block, known
+        self.places = {id(entry): place for place, entry in enumerate(self.known.entries)}
+        self.empty, self._packers = bytes(empty_message(self.known)), packers(self.known)
+        time = self.known.by_key.get(253)
+        self._time_at = time.begins if time is not None and time.is_stamp else None
+
+    def packer(self, key: Any) -> Packer:
+        found = self._packers.get(key.key if isinstance(key, DeveloperField) else key)
+        if found is not None:
+            return found
+        name = key if isinstance(key, str) else key.name if isinstance(key, DeveloperField) else f"{key!r:.40}"
+        raise UnknownName("the definition has no field", name, self.known.labels)
+
+    def place(self, key: Any) -> int:
+        """Which field of the definition a key names."""
+        return self.places[id(self.packer(key).entry)]
+
+    def resized(self, place: int, size: int) -> Sizes:
+        return (*self.sizes[:place], size, *self.sizes[place + 1 :])
+
+    def block_of(self, values: Mapping[Any, Any]) -> bytearray:
+        """The block of a message with these values."""
+        block, packs = bytearray(self.empty), self._packers
+        for key, value in values.items():
+            if key == _OFFSET:
+                block[AT_MESSAGE_OFFSET] = _offset(value)
+            else:
+                pack = packs.get(key) or self.packer(key)
+                block[pack.begins : pack.begins + pack.size] = pack(value)
+        return block
+
+    def last_time(self, blocks: Blocks) -> Optional[bytes]:
+        """The time of the last one of some messages that has one."""
+        length, at = len(self.empty), self._time_at
+        for first in range(len(blocks) - length, -1, -length) if at is not None else ():
+            time = blocks[first + at : first + at + 4]
+            if time != NO_TIME_BYTES:
+                return bytes(time)
+        return bytes(blocks[HEADER_TIME]) if blocks[AT_MESSAGE_BITS] & TOLD_HEADER_TIME else None
 
 
 class Definition:
@@ -28,139 +80,104 @@ class Definition:
     was made."""
 
     def __init__(self, writer: "Writer", number: int, shapes: list[Shape], kept: Kept, local: Optional[int]) -> None:
-        self._writer, self._number, self._shapes, self._kept = writer, number, shapes, kept
-        self._wanted, self._local = local, kept.local
-        # of each size of the fields the block, and what it says
-        self._layouts: dict[tuple[int, ...], tuple[bytes, Known]] = {}
-        self._lay([shape.least for shape in shapes])
+        self._writer, self._number, self._shapes, self._kept, self._wanted = writer, number, shapes, kept, local
+        # the layout of the last message, and others by their sizes
+        self._layouts: dict[Sizes, Layout] = {}
+        self._layout = self._laid(tuple(shape.least for shape in shapes))
+        # the sizes of the fields of the last definition message that was written of itself
+        self._begun: Optional[Sizes] = None
 
-    def _lay(self, sizes: list[int]) -> None:
-        """Makes the fields of such sizes."""
-        self._sizes = sizes
-        found = self._layouts.get(tuple(sizes))
+    def _laid(self, sizes: Sizes) -> Layout:
+        """The layout of such sizes."""
+        found = self._layouts.get(sizes)
         if found is None:
-            forms = [shape.form(self._number, size) for shape, size in zip(self._shapes, sizes)]
-            block = definition_block(self._number, forms, self._kept)
-            found = block, self._writer._layouts.of(block)
-            if len(self._layouts) == _MOST:
+            found = _layout(self._number, tuple(self._shapes), sizes, self._kept, self._writer._names)
+            if len(self._layouts) >= _MOST:
                 self._layouts.clear()
-            self._layouts[tuple(sizes)] = found
-        self._block, self._known = found
-        known, self._packers = self._known, packers(self._known)
-        time = known.by_key.get(253)
-        self._time_at = time.begins if time is not None and time.type and not time.is_scaled else None
-        self._places = {id(entry): place for place, entry in enumerate(known.entries)}
-        self._empty = empty_message(known, self._local)
-
-    def _packer(self, key: Any) -> Packer:
-        found = self._packers.get(key.key if isinstance(key, DeveloperField) else key)
-        if found is not None:
-            return found
-        name = key if isinstance(key, str) else key.name if isinstance(key, DeveloperField) else f"{key!r:.40}"
-        raise UnknownName("the definition has no field", name, self._known.labels)
-
-    def _fitted(self, values: Mapping[Any, Any]) -> Mapping[Any, Any]:
-        """The values, of words their numbers; the fields get the sizes that they need."""
-        if _TEXTS & set(map(type, values.values())):
-            values = numbered(self._known, values)
-        sizes, found = self._sizes, values
-        for key, value in values.items():
-            if type(value) in _LONE or key == _OFFSET:
-                continue
-            place = self._places[id(self._packer(key).entry)]
-            shown, size = self._shapes[place].needed(value, self._sizes[place])
-            if shown is not value or size != sizes[place]:
-                found, sizes = {**found, key: shown}, sizes[:place] + [size] + sizes[place + 1 :]
-        if sizes is not self._sizes:
-            self._lay(sizes)
+            self._layouts[sizes] = found
         return found
 
     def __reduce__(self) -> Any:
         raise TypeError("a definition of a writer can't be copied or sent to another process")
 
-    def see(self, values: Mapping[Any, Any]) -> bytearray:
-        """The block of a message with these values. What they can't have is raised."""
-        values = self._fitted(values)
-        block, packs = bytearray(self._empty), self._packers
+    def see(self, values: Mapping[Any, Any]) -> tuple[Layout, bytearray]:
+        """The block of a message with these values, with the layout in which each field has the size that it needs.
+        What they can't have is raised."""
+        layout = self._layout
+        if _TEXTS & set(map(type, values.values())):
+            values = numbered(layout.known, values)
         for key, value in values.items():
-            if key == _OFFSET:
-                block[AT_MESSAGE_OFFSET] = _offset(value)
-            else:
-                pack = packs.get(key) or self._packer(key)
-                block[pack.begins : pack.begins + pack.size] = pack(value)
-        return block
+            if type(value) in _LONE or key == _OFFSET:
+                continue
+            place = layout.place(key)
+            shown, size = self._shapes[place].needed(value, layout.sizes[place])
+            if shown is not value:
+                values = {**values, key: shown}
+            if size != layout.sizes[place]:
+                layout = self._laid(layout.resized(place, size))
+        return layout, layout.block_of(values)
 
     def write(self, __values: Optional[Mapping[Any, Any]] = None, **fields: Any) -> None:
         """Writes a message with these values; a field that isn't named has none. Fields that are no words of Python are
         given by a mapping, as `{dev: 120, 3: 121}`, and there ".time_offset" is that of a compressed timestamp
         header."""
-        block = self.see({**__values, **fields} if __values else fields)
-        if block[AT_MESSAGE_OFFSET] != NO_OFFSET and (self._wanted is None or self._wanted > 3):
-            raise ValueError("a compressed timestamp header needs a local message type of 0 to 3: define(.., local=0)")
-        self._put(block)
-        if self._number in OF_DEVELOPERS:
-            self._writer._learn(self._known, block)
+        layout, block = self.see({**__values, **fields} if __values else fields)
+        if block[AT_MESSAGE_OFFSET] != NO_OFFSET:
+            if self._wanted is None or self._wanted > 3:
+                what = "a compressed timestamp header needs a local message type of 0 to 3"
+                raise ValueError(f"{what}: define(.., local=0)")
+            _tell_header_time(block, self._writer._last_time)
+        self._put(layout, block)
 
     def begin(self) -> None:
         """Writes the definition message now, also where no message comes, or the same one stands already."""
-        self._local = self._place()
-        self._writer._emit(self._block, self._local, self._block)
+        self._begin(self._layout)
+
+    def _begin(self, layout: Layout) -> None:
+        self._writer._define(layout.block)
+        self._begun = layout.sizes
 
     def columns(self, __columns: Optional[Mapping[Any, Any]] = None, **fields: Any) -> None:
         """Writes a message for each row of columns of one length: lists, arrays of numpy, series of pandas, or whatever
         gives values one after another. None, NaN and NaT stand for no value, as does a field that isn't named. Where
         one of them doesn't fit, none is written."""
-        columns = numbered_columns(self._known, listed({**({} if __columns is None else __columns), **fields}))
+        layout = self._layout
+        columns = numbered_columns(layout.known, listed({**({} if __columns is None else __columns), **fields}))
         rows = max(map(len, columns.values()), default=0)
         for key, column in columns.items():
             if not is_of_numbers(column):
-                self._fit_column(key, column)
-        block, length = self._empty * rows, len(self._empty)
+                layout = self._fit_column(layout, key, column)
+        blocks, length = bytearray(layout.empty) * rows, len(layout.empty)
         for key, column in columns.items():
-            put_column(block, length, self._packer(key), column)
+            put_column(blocks, length, layout.packer(key), column)
         if rows:
-            self._put(block)
-            for at in range(0, len(block), length) if self._number in OF_DEVELOPERS else ():
-                self._writer._learn(self._known, block[at : at + length])
+            self._put(layout, blocks)
 
-    def _fit_column(self, key: Any, column: Any) -> None:
-        """Gives a field the size that the values of a column need."""
-        place = self._places[id(self._packer(key).entry)]
-        shape, size = self._shapes[place], self._sizes[place]
+    def _fit_column(self, layout: Layout, key: Any, column: Any) -> Layout:
+        """The layout in which a field has the size that the values of a column need."""
+        place = layout.place(key)
+        shape, size = self._shapes[place], layout.sizes[place]
         for row, value in enumerate(column):
             if type(value) not in _LONE:
                 shown, size = shape.needed(value, size)
                 if shown is not value:
                     column[row] = shown
-        if size != self._sizes[place]:
-            self._lay(self._sizes[:place] + [size] + self._sizes[place + 1 :])
+        return self._laid(layout.resized(place, size))
 
-    def _put(self, block: bytearray) -> None:
-        """Writes messages of the definition, and that before them where it isn't the last of its local message type."""
-        writer = self._writer
-        if writer._slots[self._local] is not self._block:
-            self.begin()
-        writer._turn += 1
-        writer._turns[self._local] = writer._turn
-        length = len(self._empty)
-        if block[AT_MESSAGE_LOCAL] != self._local:
-            self._empty[AT_MESSAGE_LOCAL] = self._local
-            block[AT_MESSAGE_LOCAL::length] = bytes([self._local]) * (len(block) // length)
-        writer._usable().append(block)
-        if self._time_at is not None:
-            time = block[len(block) - length + self._time_at :][:4]
-            writer._time = writer._time if time == NO_TIME_BYTES else bytes(time)
+    def _put(self, layout: Layout, blocks: bytearray) -> None:
+        """Writes messages; before them, where the local message type is given, their definition message, if it isn't
+        the last one."""
+        if self._wanted is not None and self._begun != layout.sizes:
+            self._begin(layout)
+        self._writer._put(layout.known, layout.block, blocks, layout.last_time(blocks))
+        self._layout = layout
 
-    def _place(self) -> int:
-        """The local message type that it gets: that which it was given, one that is free, or that which was used least
-        lately."""
-        writer = self._writer
-        if self._wanted is not None:
-            return self._wanted
-        held = writer._slots[self._local]
-        if any(held is block for block, _ in self._layouts.values()):
-            return self._local
-        return writer._slots.index(None) if None in writer._slots else writer._turns.index(min(writer._turns))
+
+@functools.lru_cache(maxsize=64)
+def _layout(message: int, shapes: tuple[Shape, ...], sizes: Sizes, kept: Kept, names: Optional[Names]) -> Layout:
+    """The layout of messages that have fields in such sizes."""
+    block = definition_block(message, [shape.form(message, size) for shape, size in zip(shapes, sizes)], kept)
+    return Layout(sizes, block, definition_of(block, names, {}))
 
 
 def _offset(value: Any) -> int:
@@ -169,3 +186,15 @@ def _offset(value: Any) -> int:
     if isinstance(value, bool) or not isinstance(value, int) or not 0 <= value <= 31:
         raise WrongValue(f"a time offset is 0 to 31, and not {value!r:.40}", _OFFSET, value, 0, 31)
     return value
+
+
+def _tell_header_time(block: bytearray, before: Optional[bytes]) -> None:
+    """Has the block of a message with a time offset tell the time that this is after the last one."""
+    if before == LOST:
+        what = "a call of the writer was interrupted, so nobody knows the time from which a time offset counts"
+        raise RuntimeError(f"{what}: write a timestamp")
+    if before is not None:
+        last = int.from_bytes(before, "little")
+        time = last + (block[AT_MESSAGE_OFFSET] - last & 31)
+        block[HEADER_TIME] = (time & 0xFFFFFFFF).to_bytes(4, "little")
+        block[AT_MESSAGE_BITS] |= TOLD_HEADER_TIME

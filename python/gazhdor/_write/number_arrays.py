@@ -84,32 +84,33 @@ def _is_too_coarse(times: Any) -> bool:
 
 
 def _packed(pack: Packer, items: Any, none: Any) -> Optional[memoryview]:
-    """Items in the width of the field, where all of them can be, and the invalid one where there is none."""
+    """Items as a block has them, in the width of the field, where all of them can be, and the invalid one where there
+    is none."""
     import numpy
 
     entry = pack.entry
     values = items if none is None else items[~none]
     if len(values) and not (pack.has(int(values.min()), int(values.max())) and not (values == entry.invalid).any()):
         return None
-    made: Any = numpy.full(len(items), entry.invalid, numpy.dtype(entry.item_code))
+    made: Any = numpy.full(len(items), entry.invalid, "<" + entry.item_code)
     if none is None:
         made[:] = items
     else:
         made[~none] = values
-    return memoryview(made).cast("B").cast(pack.entry.float_code)
+    return memoryview(made.view("u1")).cast(entry.float_code)
 
 
 def _floats(pack: Packer, column: Any) -> Optional[memoryview]:
-    """Floats, and the bits that stand for no value where one isn't a number."""
+    """Floats as a block has them, and the bits that stand for no value where one isn't a number."""
     import numpy
 
     width = pack.entry.width
     with numpy.errstate(over="ignore"):
-        made: Any = column.astype(f"f{width}")
+        made: Any = column.astype(f"<f{width}")
     if (numpy.isinf(made) & ~numpy.isinf(column.astype("f8"))).any():
         return None
-    made.view(f"u{width}")[numpy.isnan(column.astype("f8"))] = pack.entry.invalid
-    return memoryview(made).cast("B").cast(pack.entry.float_code)
+    made.view(f"<u{width}")[numpy.isnan(column.astype("f8"))] = pack.entry.invalid
+    return memoryview(made.view("u1")).cast(pack.entry.float_code)
 
 
 def _steps(pack: Packer, values: Any, none: Any) -> Any:

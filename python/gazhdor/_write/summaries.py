@@ -5,13 +5,15 @@ import math
 from collections.abc import Iterable
 from typing import Any, NamedTuple, Optional
 
-from .._names import EXTRA
+from .._numbers import NO_TIME
 from .._read.messages import Message
-from .._read.streams import messages
+from .._read.streams import Files
+from .._times import SYSTEM_TIMES
 from ..errors import WrongValue
 from .writer import Writer
 
-LAP, SESSION, RECORD, EVENT, SPORT, ACTIVITY = 19, 18, 20, 21, 12, 34
+LAP, SESSION, RECORD, EVENT, SPORT, ACTIVITY, LENGTH = 19, 18, 20, 21, 12, 34, 101
+INDEX = 254
 # Numbers of the profile: events, their types, and what ends a lap.
 _TIMER, _OF_SESSION, _OF_LAP, _OF_ACTIVITY = 0, 8, 9, 26
 START, STOP, STOPS = 0, 1, (1, 4, 8, 9)
@@ -75,9 +77,10 @@ class Summary:
         self._sums: dict[str, tuple[float, int]] = {}
 
     def take(self, message: Message) -> None:
-        if message.seconds is not None:
-            self.start = message.seconds if self.start is None else min(self.start, message.seconds)
-            self.end = max(self.end, message.seconds)
+        seconds = message.seconds
+        if seconds is not None:
+            self.start = seconds if self.start is None else min(self.start, seconds)
+            self.end = max(self.end, seconds)
         lat, long = message.get(0), message.get(1)
         if isinstance(lat, int) and isinstance(long, int):
             self._places[1:] = [(lat, long)]
@@ -107,8 +110,10 @@ class Summary:
             found["start_position_lat"], found["start_position_long"] = self._places[0]
         if self._distances:
             found["total_distance"] = max(0.0, self._distances[-1] - self._distances[0])
-        for name, (total, count) in self._sums.items():
-            found[f"avg_{name}"], found[f"max_{name}"] = total / count, self._top[name]
+        for name in ("speed", *_MEANS):
+            if name in self._sums:
+                total, count = self._sums[name]
+                found[f"avg_{name}"], found[f"max_{name}"] = total / count, self._top[name]
         if ran and "total_distance" in found:
             found["avg_speed"] = found["total_distance"] / ran
         return {name: value for name, value in found.items() if not name.endswith("_speed") or value < 65.535}
@@ -148,13 +153,25 @@ class Outline:
 
     def __init__(self) -> None:
         self.of: dict[int, list[Message]] = {LAP: [], SESSION: [], SPORT: [], ACTIVITY: []}
+        # of its laps and sessions, by their places, the first and the last second
+        self.spans: dict[int, tuple[int, int]] = {}
         self.timer = Timer()
+        # the numbers of all laps and lengths
+        self.indices: dict[int, list[Any]] = {LAP: [], LENGTH: []}
 
     def take(self, message: Message) -> None:
-        if message.number == EVENT:
+        number = message.number
+        if number in self.indices:
+            self.indices[number].append(message.get(INDEX))
+        if number == EVENT:
             self.timer.take(message)
-        elif message.number in (SPORT, ACTIVITY) or span_of(message):
-            self.of[message.number].append(message)
+        elif number in (SPORT, ACTIVITY):
+            self.of[number].append(message)
+        elif number in (LAP, SESSION):
+            span = span_of(message)
+            if span:
+                self.of[number].append(message)
+                self.spans[message.place] = span
 
     @property
     def zone(self) -> Optional[int]:
@@ -180,14 +197,39 @@ class Outline:
         return None
 
 
+class Ride:
+    """The records of a file: all of them, and those after its last lap."""
+
+    def __init__(self, told: Outline) -> None:
+        self.told, self.all, self.rest = told, Summary(), Summary()
+        self.spans = [span for span in map(span_of, (*told.of[LAP], *told.of[SESSION])) if span]
+        self.laps_end = max((span[1] for span in map(span_of, told.of[LAP]) if span), default=None)
+
+    def take(self, record: Message) -> None:
+        self.all.take(record)
+        if record.seconds is not None and (self.laps_end is None or record.seconds > self.laps_end):
+            self.rest.take(record)
+
+    def last_lap(self, index: int) -> "Optional[Anew]":
+        """A lap of the records that are in none, by what it is counted; none where the timer didn't run in it."""
+        if self.rest.start is None:
+            return None
+        begin = self.rest.start if self.laps_end is None else self.laps_end
+        end = max(self.rest.end, *(last for _, last in (*self.spans, (0, 0))))
+        ran = float(self.told.timer.ran(begin, end))
+        if not ran and self.laps_end is not None:
+            return None
+        return Anew("lap", {"message_index": index, **self.rest.lap(begin, end, ran), **LAP_ENDS})
+
+
 def sport_of(message: Message) -> dict[str, Any]:
     return {name: message[name] for name in ("sport", "sub_sport") if message.get(name) is not None}
 
 
-def outlines(data: bytes) -> dict[int, Outline]:
-    """The outline of each file of a chain that says something of itself, by its number."""
+def outlines(files: Files) -> dict[int, Outline]:
+    """The outline of each file that says something of itself, by its number."""
     found: dict[int, Outline] = {}
-    for message in messages(data, only=(LAP, SESSION, SPORT, ACTIVITY, EVENT), names=EXTRA):
+    for message in files.messages(LAP, SESSION, SPORT, ACTIVITY, EVENT, LENGTH):
         found.setdefault(message.file, Outline()).take(message)
     return found
 
@@ -215,6 +257,6 @@ def activity_of(end: int, timers: Iterable[float], zone: Optional[int], told: Op
     """The message of an activity of so many sessions, which ends at a second; of one that was told its type, too."""
     ran = list(timers)
     own = {name: told[name] for name in ("type", "event", "event_type") if told and told.get(name) is not None}
-    local = {} if zone is None else {"local_timestamp": end + zone}
+    local = {} if zone is None or not SYSTEM_TIMES <= end + zone < NO_TIME else {"local_timestamp": end + zone}
     values = {"timestamp": end, "total_timer_time": sum(ran), "num_sessions": len(ran), "type": 0}
     return Anew("activity", {**values, "event": _OF_ACTIVITY, "event_type": STOP, **own, **local})

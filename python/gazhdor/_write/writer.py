@@ -1,32 +1,24 @@
 """Files that are written from values, and from what others have."""
-from collections.abc import Iterable, Mapping
+from collections.abc import Callable, Iterable, Iterator, Mapping
 from typing import Any, Optional, Union
 
-from .._base_types import BYTE, base_named
+from .._answers import Answer
+from .._base_types import base_named
 from .._library import exact, library, text_of
 from .._names import Told, names_of
-from .._numbers import (
-    AT_DEFINITION_DEVELOPERS,
-    AT_DEFINITION_LOCAL,
-    AT_DEFINITION_MESSAGE,
-    AT_MESSAGE_BITS,
-    AT_MESSAGE_LOCAL,
-    AT_MESSAGE_OFFSET,
-    NO_OFFSET,
-    TOLD_TIME,
-    UNWRITABLE,
-)
+from .._numbers import AT_KIND, AT_MESSAGE_BITS, AT_MESSAGE_LOCAL, TOLD_TIME, UNWRITABLE
 from .._profile import Kind
 from .._read.events import DefinitionMessage, Everything, FileEnd, FileHeader
 from .._read.messages import Message
-from .._read.native_fields import DESCRIPTION, DEVELOPER_DATA, OF_DEVELOPERS, lone_number
+from .._read.native_fields import DESCRIPTION, DEVELOPER_DATA, lone_number
 from .._read.values import Definition as Known
 from .._times import OWN_TIME
 from ..errors import BlocksRefused, judge
-from .definitions import END, KINDS, FieldDefinition, Kept, Layouts, fields_of_block, header_block, slim
+from .definitions import KINDS, Kept, block_for, header_block
+from .describing import describe, described, other
 from .field_shapes import DeveloperField, Shapes, Spec, byte, message_number
-from .header_times import is_out_of_time, with_time
 from .message_writer import Definition
+from .put import Blocks, Chain
 from .sinks import Sink, sink_of, write
 
 _LOCALS = 16
@@ -64,27 +56,13 @@ class Writer:
 
     def __init__(self, sink: Sink, names: Told = None) -> None:
         self._sink, self._names = sink_of(sink), names_of(names)
-        # the blocks of the current file, and the bytes of those before it
-        self._chunks: Optional[list[Union[bytes, bytearray]]] = []
-        self._files: list[bytes] = []
-        self._layouts = Layouts(self._names)
-        # whether a file is begun, and whether no call was interrupted
-        self._is_open, self._is_whole = False, True
-        self._forget()
-
-    def _forget(self) -> None:
-        """What a file begins with: no definitions, and no developer fields."""
-        # what each local message type is of: the definition of what was copied, or the block of a definition that was
-        # made here
-        self._slots: list[Optional[object]] = [None] * _LOCALS
-        self._turns, self._turn = [0] * _LOCALS, 0
-        # the last definition message of each local message type that was copied
-        self._copied: dict[int, bytes] = {}
+        # the files; none before something is written
+        self._chain: Optional[Chain] = None
+        self._is_finished = False
+        # what the current file describes, and what `write` has made for it
         self._developers: dict[Any, DeveloperField] = {}
         self._indices: set[Optional[int]] = set()
         self._kinds: dict[Any, Definition] = {}
-        # the time that was written last, as a message's block has it
-        self._time: Optional[bytes] = None
 
     # ---- what is written
 
@@ -175,35 +153,24 @@ class Writer:
         if index not in self._indices:
             own = {"application_id": bytes(application)} if application else {}
             self.write(DEVELOPER_DATA, {"developer_data_index": index, **own})
-            self._indices.add(index)
         definition.write(told)
         return self._developers[index, field]
 
     def copy(self, event: Everything) -> None:
         """Writes what `messages` gives: a message, as it is or with other values (`replace`), and, with `everything`,
-        headers, definition messages and ends. What isn't changed keeps its bytes. A message whose definition message
-        wasn't copied brings one along, and one whose time is in its header gets a timestamp where messages before it
-        are left out, from which that time counts."""
+        headers and definition messages; a file ends where the next one begins. What isn't changed keeps its bytes. A
+        message is read as it was: it brings its definition message along where that isn't there, the descriptions of
+        its developer fields where these are described in another way, and a timestamp where its time is in its header
+        and would be another one after other messages."""
         if isinstance(event, Message):
             block, definition = event._block, event._definition
-            local = block[AT_MESSAGE_LOCAL]
-            if block[AT_MESSAGE_OFFSET] != NO_OFFSET and is_out_of_time(block, self._time):
-                definition, block = with_time(definition, block)
-            if self._slots[local] is not definition:
-                self._place(definition, local)
-            self._chunks.append(block)  # type: ignore[union-attr]
-            if block[AT_MESSAGE_BITS] & TOLD_TIME:
-                self._time = block[OWN_TIME]
-            if definition.number in OF_DEVELOPERS:
-                self._learn(definition, block)
+            time = block[OWN_TIME] if block[AT_MESSAGE_BITS] & TOLD_TIME else None
+            self._put(definition, block_for(definition, block[AT_MESSAGE_LOCAL]), block, time)
         elif isinstance(event, DefinitionMessage):
-            self._emit(event._definition, event.local, event._block)
-            self._copied[event.local] = event._block
+            self._define(event._block)
         elif isinstance(event, FileHeader):
             self._begin(event._block)
-        elif isinstance(event, FileEnd):
-            self._end()
-        else:
+        elif not isinstance(event, FileEnd):
             raise TypeError(f"what is copied is what messages gives, and not {type(event).__name__}")
 
     # ---- the end
@@ -211,17 +178,17 @@ class Writer:
     def finish(self) -> None:
         """Writes the file, as the end of `with` does. After that the writer can't be used. Where that fails, as on a
         full disk, nothing is lost, and it can be called again; a file object may have got a part then."""
-        self._end()
-        if not self._files:
+        self._see_usable()
+        if self._chain is None:
             self.discard()
             raise ValueError("nothing was written, and no file is empty")
-        write(self._sink, self._files[0] if len(self._files) == 1 else b"".join(self._files))
+        write(self._sink, self._chain.finish())
         self.discard()
 
     def discard(self) -> None:
         """Forgets all, and writes nothing. After that the writer can't be used."""
-        self._chunks, self._files = None, []
-        self._forget()
+        self._is_finished = True
+        self._chain = None
 
     def __reduce__(self) -> Any:
         raise TypeError("a writer can't be copied or sent to another process")
@@ -232,80 +199,86 @@ class Writer:
     def __exit__(self, kind: object, *error: object) -> None:
         if kind is not None:
             self.discard()
-        elif self._chunks is not None:
+        elif not self._is_finished:
             self.finish()
 
-    # ---- blocks
+    # ---- the files
 
-    def _usable(self) -> list[Union[bytes, bytearray]]:
-        if self._chunks is None:
+    def _see_usable(self) -> None:
+        if self._is_finished:
             raise ValueError("the writer is finished")
-        if not self._is_whole:
-            raise RuntimeError("a call of the writer was interrupted")
-        return self._chunks
+
+    @property
+    def _last_time(self) -> Optional[bytes]:
+        """The time of the last message that has one."""
+        return self._chain.time if self._chain else None
 
     def _begin(self, header: bytes) -> None:
-        self._end()
-        chunks = self._usable()
-        self._is_whole = False
-        chunks.append(header)
-        self._is_open = self._is_whole = True
+        """Begins a file. Of what was known of the one before only names may be left if this is interrupted."""
+        self._see_usable()
+        chain = self._chain or Chain()
+        self._kinds, self._indices = {}, set()
+        chain.begin(header)
+        self._chain = chain
+        self._developers = {}
 
-    def _end(self) -> None:
-        chunks = self._usable()
-        if self._is_open:
-            made = from_blocks(b"".join([*chunks, END]))
-            self._is_whole = False
-            self._files.append(made)
-            chunks.clear()
-            self._forget()
-            self._is_open, self._is_whole = False, True
+    def _begun(self) -> Chain:
+        """The files; where there is none, one with the usual header, which is this writer's with its first message."""
+        self._see_usable()
+        if self._chain is not None:
+            return self._chain
+        chain = Chain()
+        chain.begin(header_block(14, 0x20, _PROFILE, KINDS.index("there"), b""))
+        return chain
 
-    def _emit(self, definition: object, local: int, block: bytes) -> None:
-        """Writes a definition message of a local message type."""
-        chunks = self._usable()
-        if not self._is_open:
-            self.file()
-        if block[AT_DEFINITION_DEVELOPERS] or block[AT_DEFINITION_DEVELOPERS + 1]:
-            self._see_described(fields_of_block(block))
-        self._is_whole = False
-        at = AT_DEFINITION_LOCAL
-        chunks.append(slim(block if block[at] == local else block[:at] + bytes([local]) + block[at + 1 :]))
-        self._turn += 1
-        self._slots[local], self._turns[local] = definition, self._turn
-        self._is_whole = True
+    def _define(self, block: bytes) -> None:
+        """Writes a definition message."""
+        chain = self._begun()
+        chain.define(block)
+        self._chain = chain
 
-    def _place(self, definition: Known, local: int) -> None:
-        """Makes a local message type one of a definition that was read, by the last one that was copied, where that
-        says the same."""
-        copied, held = self._copied.get(local), self._slots[local]
-        said = definition.data[AT_DEFINITION_MESSAGE:]
-        if isinstance(held, Known) and held.data[AT_DEFINITION_MESSAGE:] == said:
-            self._slots[local] = definition
-        elif copied is not None and copied[AT_DEFINITION_MESSAGE:] == said:
-            self._emit(definition, local, copied)
-        else:
-            self._emit(definition, local, definition.data)
+    def _put(self, known: Known, definition: bytes, blocks: Blocks, time: Optional[bytes]) -> None:
+        """Writes messages of a definition; `time` is that of the last one which has a time. Where one is refused, those
+        before it are written."""
+        chain = self._begun()
+        if known.number == DESCRIPTION:
+            self._learn(known, blocks)
+        answer = chain.put(definition, blocks, time)
+        if not answer.good:
+            if answer.reason == "Described":
+                blocks = blocks[answer._place :]
+                answer = self._describing(chain, known, lambda: chain.put(definition, blocks, time))
+            if answer._row:
+                self._chain = chain
+            judge(answer)
+        self._chain = chain
+        if known.number == DEVELOPER_DATA:
+            self._indices |= {lone_number(known.by_key.get(3), 1, block) for block in _each(blocks)}
 
-    def _see_described(self, fields: Iterable[FieldDefinition]) -> None:
-        """Raises what is wrong where a developer field isn't described here as where it comes from."""
-        for field in fields:
-            if field.developer is not None:
-                known = self._developers.get(field.key)
-                base = field._replace(base=known.base if known else BYTE.code).shape
-                if base.width != field.shape.width:
-                    what = f"the developer field {field.key} isn't described in this file as where it comes from"
-                    raise ValueError(f"{what}: copy its description first")
+    def _describing(self, chain: Chain, known: Known, put: Callable[[], Answer]) -> Answer:
+        """Puts messages once their developer fields are described as they are where they come from."""
+        entries = described(known)
+        if entries:
+            self._chain = chain
+        describe(self, entries)
+        answer = put()
+        if answer.reason == "Described":
+            raise other(known)
+        return answer
 
-    def _learn(self, definition: Known, block: Union[bytes, bytearray]) -> None:
-        """Takes in what a description, or the message of an application, says."""
-        data, get = bytes(block), definition.by_key.get
-        if definition.number == DEVELOPER_DATA:
-            self._indices.add(lone_number(get(3), 1, data))
-        elif definition.number == DESCRIPTION:
-            index, number, base = (lone_number(get(key), 1, data) for key in (0, 1, 2))
+    def _learn(self, known: Known, blocks: Blocks) -> None:
+        """Takes in what descriptions say, before they are written: a name that nothing has then names nothing wrong."""
+        self._kinds = {}
+        for block in _each(blocks):
+            index, number, base = (lone_number(known.by_key.get(key), 1, block) for key in (0, 1, 2))
             if index is not None and number is not None and base is not None:
-                told = Message(data, definition)
+                told = Message(block, known)
                 name, unit = (str(told.get(key) or "") for key in (3, 8))
                 of = DeveloperField(index, number, name, unit, base)
                 self._developers[index, number] = self._developers[name] = of
+
+
+def _each(blocks: Blocks) -> Iterator[bytes]:
+    """The blocks of messages of one definition."""
+    length = int.from_bytes(blocks[:AT_KIND], "little")
+    return (bytes(blocks[at : at + length]) for at in range(0, len(blocks), length))
