@@ -77,6 +77,27 @@ static void say_changed(const char *name, call *of, gazhdor_text text)
     free(changed);
 }
 
+/* Puts blocks by a writer, up to the first that it refuses; the chain where none was. */
+static gazhdor_answer written(const uint8_t *bytes, size_t length, gazhdor_text *text)
+{
+    gazhdor_writer writer = GAZHDOR_CLOSED_WRITER;
+    gazhdor_text blocks = { bytes, length };
+    gazhdor_answer answer = gazhdor_writer_open(&writer);
+    for (gazhdor_reader at = gazhdor_read(blocks); answer.status == GAZHDOR_GOOD && gazhdor_next(&at);) {
+        if (at.block.kind == GAZHDOR_FILE_HEADER)
+            answer = gazhdor_writer_file(&writer, at.block.bytes, at.block.length);
+        else if (at.block.kind == GAZHDOR_DEFINITION)
+            answer = gazhdor_writer_definition(&writer, at.block.bytes, at.block.length);
+        else if (at.block.kind == GAZHDOR_MESSAGE)
+            answer = gazhdor_writer_messages(&writer, at.definition.bytes, at.definition.length, at.block.bytes, at.block.length);
+    }
+    if (answer.status == GAZHDOR_GOOD)
+        answer = gazhdor_writer_finish(&writer, text);
+    gazhdor_writer_close(&writer);
+    gazhdor_writer_close(&writer);
+    return answer;
+}
+
 static void say_pieces(const uint8_t *bytes, size_t length, uint32_t kind)
 {
     gazhdor_stream stream = GAZHDOR_CLOSED_STREAM;
@@ -111,6 +132,8 @@ static void say_all(const uint8_t *bytes, size_t length)
     gazhdor_free(made("from_messages", gazhdor_from_messages, blocks.bytes, blocks.length));
     say_changed("from_csv", gazhdor_from_csv, csv);
     say_changed("from_messages", gazhdor_from_messages, blocks);
+    gazhdor_free(made("a writer", written, blocks.bytes, blocks.length));
+    say_changed("a writer", written, blocks);
     gazhdor_free(csv);
     gazhdor_free(blocks);
     for (uint32_t kind = 0; kind < 7; kind++)
@@ -211,6 +234,7 @@ static void refuse_all(const uint8_t *bytes, size_t length)
     refuse("from_csv", gazhdor_from_csv, csv.bytes, csv.length);
     refuse("from_messages", gazhdor_from_messages, blocks.bytes, blocks.length);
     refuse("a stream", streamed, bytes, length);
+    refuse("a writer", written, blocks.bytes, blocks.length);
     gazhdor_free(csv);
     gazhdor_free(blocks);
 }

@@ -4,7 +4,7 @@
  *     python3 release/any/module_c.py js/gazhdor.wasm >out/gazhdor_module.c
  *     cc -O2 -shared -fPIC -Ic -Iout release/any/everywhere.c -o libgazhdor.so
  *
- * Each call has a memory of its own, as each stream has, so calls may be made in as many threads at once as you like. Bytes are copied in and
+ * Each call has a memory of its own, as each stream and each writer has, so calls may be made in as many threads at once as you like. Bytes are copied in and
  * texts out. There is no writable data, no handler of signals, and no name but those of gazhdor.h.
  *
  * Not proved. What can't be here is memory beyond 4 GiB: a call whose bytes and text don't fit into that answers GAZHDOR_NO_MEMORY. */
@@ -163,41 +163,55 @@ MAKE(messages)
 MAKE(from_csv)
 MAKE(from_messages)
 
-/* ---- Streams */
+/* ---- Streams and writers */
 
-/* What a gazhdor_stream points to. Once a piece or a text had no memory, each later call says so too: bytes were lost. */
+/* What a gazhdor_stream and a gazhdor_writer point to: a memory with the answers of its calls and with the module's own stream or writer. Once
+ * a piece or a text of a stream had no memory, each later call says so too: bytes were lost. */
 typedef struct opened {
     memory m;
-    u64 place, stream;
+    u64 place, inner;
     int lost;
 } opened;
 
-void gazhdor_close(gazhdor_stream *stream)
+static void opened_free(opened *at)
 {
-    opened *at = stream->at;
     if (at != NULL)
         free(at->m.base);
     free(at);
+}
+
+/* One that is closed in the module; NULL where memory is refused. */
+static opened *opened_new(void)
+{
+    static const uint8_t closed[8];
+    opened *at = malloc(sizeof *at);
+    if (at == NULL || !module_opened(&at->m, 0)) {
+        free(at);
+        return NULL;
+    }
+    at->lost = 0;
+    at->place = module_alloc(&at->m, PLACE);
+    at->inner = put(&at->m, closed, sizeof closed);
+    if (at->place != 0 && at->inner != 0)
+        return at;
+    opened_free(at);
+    return NULL;
+}
+
+void gazhdor_close(gazhdor_stream *stream)
+{
+    opened_free(stream->at);
     stream->at = NULL;
 }
 
 gazhdor_answer gazhdor_open(gazhdor_stream *stream, uint32_t kind)
 {
-    static const uint8_t closed[8];
     gazhdor_close(stream);
-    opened *at = malloc(sizeof *at);
-    if (at == NULL || !module_opened(&at->m, 0)) {
-        free(at);
+    opened *at = opened_new();
+    if (at == NULL)
         return only(GAZHDOR_NO_MEMORY);
-    }
-    gazhdor_answer answer = only(GAZHDOR_NO_MEMORY);
-    at->lost = 0;
-    at->place = module_alloc(&at->m, PLACE);
-    at->stream = put(&at->m, closed, sizeof closed);
-    if (at->place != 0 && at->stream != 0) {
-        module_open(&at->m, at->place, at->stream, kind);
-        answer = answer_at(&at->m, at->place);
-    }
+    module_open(&at->m, at->place, at->inner, kind);
+    gazhdor_answer answer = answer_at(&at->m, at->place);
     stream->at = at;
     if (answer.status != GAZHDOR_GOOD)
         gazhdor_close(stream);
@@ -222,7 +236,7 @@ gazhdor_answer gazhdor_feed(gazhdor_stream *stream, const uint8_t *bytes, size_t
     if (at->lost)
         return only(GAZHDOR_NO_MEMORY);
     no_text(&at->m, at->place);
-    module_feed(&at->m, at->place, at->stream, piece, length, at->place + TEXT);
+    module_feed(&at->m, at->place, at->inner, piece, length, at->place + TEXT);
     gazhdor_answer answer = told(at, text);
     module_free(&at->m, piece);
     return answer;
@@ -236,6 +250,80 @@ gazhdor_answer gazhdor_finish(gazhdor_stream *stream, gazhdor_text *text)
     if (at->lost)
         return only(GAZHDOR_NO_MEMORY);
     no_text(&at->m, at->place);
-    module_finish(&at->m, at->place, at->stream, at->place + TEXT);
+    module_finish(&at->m, at->place, at->inner, at->place + TEXT);
     return told(at, text);
+}
+
+void gazhdor_writer_close(gazhdor_writer *writer)
+{
+    opened_free(writer->at);
+    writer->at = NULL;
+}
+
+gazhdor_answer gazhdor_writer_open(gazhdor_writer *writer)
+{
+    gazhdor_writer_close(writer);
+    opened *at = opened_new();
+    if (at == NULL)
+        return only(GAZHDOR_NO_MEMORY);
+    module_writer_open(&at->m, at->place, at->inner);
+    gazhdor_answer answer = answer_at(&at->m, at->place);
+    writer->at = at;
+    if (answer.status != GAZHDOR_GOOD)
+        gazhdor_writer_close(writer);
+    return answer;
+}
+
+typedef void module_put(memory *m, u64 answer, u64 writer, u64 block, u64 length);
+
+static gazhdor_answer put_block(module_put *call, gazhdor_writer *writer, const uint8_t *block, size_t length)
+{
+    opened *at = writer->at;
+    if (at == NULL)
+        return only(GAZHDOR_CLOSED);
+    u64 copy = put(&at->m, block, length);
+    if (copy == 0)
+        return only(GAZHDOR_NO_MEMORY);
+    call(&at->m, at->place, at->inner, copy, length);
+    module_free(&at->m, copy);
+    return answer_at(&at->m, at->place);
+}
+
+gazhdor_answer gazhdor_writer_file(gazhdor_writer *writer, const uint8_t *block, size_t length)
+{
+    return put_block(module_writer_file, writer, block, length);
+}
+
+gazhdor_answer gazhdor_writer_definition(gazhdor_writer *writer, const uint8_t *block, size_t length)
+{
+    return put_block(module_writer_definition, writer, block, length);
+}
+
+gazhdor_answer gazhdor_writer_messages(gazhdor_writer *writer, const uint8_t *definition, size_t definition_length,
+    const uint8_t *blocks, size_t length)
+{
+    opened *at = writer->at;
+    if (at == NULL)
+        return only(GAZHDOR_CLOSED);
+    gazhdor_answer answer = only(GAZHDOR_NO_MEMORY);
+    u64 copy = put(&at->m, definition, definition_length);
+    u64 run = copy != 0 ? put(&at->m, blocks, length) : 0;
+    if (run != 0) {
+        module_writer_messages(&at->m, at->place, at->inner, copy, definition_length, run, length);
+        answer = answer_at(&at->m, at->place);
+        module_free(&at->m, run);
+    }
+    if (copy != 0)
+        module_free(&at->m, copy);
+    return answer;
+}
+
+gazhdor_answer gazhdor_writer_finish(gazhdor_writer *writer, gazhdor_text *bytes)
+{
+    opened *at = writer->at;
+    if (at == NULL)
+        return only(GAZHDOR_CLOSED);
+    no_text(&at->m, at->place);
+    module_writer_finish(&at->m, at->place, at->inner, at->place + TEXT);
+    return made(&at->m, at->place, bytes);
 }
