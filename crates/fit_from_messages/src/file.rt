@@ -73,7 +73,7 @@ fn widths_fit(layout: &Layout<'_>, slots: &[Slot]) -> bool
     ensures { result ≡ widths_fit layout.now slots.now }
 {
     for n in 0..layout.len() {
-        let (code, size) = layout.slot(n);
+        let (code, size) = layout.shape(n);
         let slot = slots[n];
         if width_of(Code(code), size) != slot.width {
             return false;

@@ -134,7 +134,7 @@ fn write_lone_in<'a>(
     let mut rest = body;
     let mut at = start;
     for place in 0..layout.len() {
-        let (code, width) = layout.slot(place);
+        let (code, width) = layout.shape(place);
         at = write_one(sheet, at, order, code, width, rest);
         let (_, after) = rest.split_at(width as usize);
         rest = after;
@@ -187,7 +187,7 @@ pub(crate) fn add_all_read<'a>(
     let mut rest = body;
     let mut at = start;
     for place in 0..layout.len() {
-        let (code, size) = layout.slot(place);
+        let (code, size) = layout.shape(place);
         let (here, after) = rest.split_at(size as usize);
         at = add_read(bytes, sheet, at, order, code, size, here)?;
         rest = after;

@@ -13,7 +13,7 @@ use Rattle.fit_record.specs.MessageBytes.{message_in}
 use Rattle.fit_record.specs.declared.message_bytes.MessageBytes.{MessageBytes}
 use Rattle.fit_record.specs.Records.{sizes, layout}
 use Rattle.fit_profile.specs.Times.{time_in_field, valid_time, field_time}
-use Rattle.fit_profile.specs.inner.InBytes.{slots}
+use Rattle.fit_profile.specs.inner.InBytes.{shapes}
 use Rattle.fit_profile.specs.inner.Plans.{time_of_fields}
 
 -- the items of a field whose bytes begin these
@@ -22,7 +22,7 @@ items_at o f bytes = field_from o (f.code, f.size) (take f.size bytes)
 
 -- the first field of this number, in the bytes of fields
 abbrev pub first_in : {A : Type 0} → Order → List FieldDef → List ℕ → ℕ → Option (FieldDef × Items A)
-first_in o fields bytes number = first_field fields (fields_from o (slots fields) bytes) number
+first_in o fields bytes number = first_field fields (fields_from o (shapes fields) bytes) number
 
 pub passed : {A : Type 0} (o : Order) (fields : List FieldDef) (bytes : List ℕ) (number i : ℕ) (d : FieldDef) → i < length fields
     → ((get_or fields i d).number ≡ number → ⊥)
@@ -31,11 +31,11 @@ passed o fields bytes number i d h e =
     ap (λ fs. first_in o fs bytes number) (drop-cons fields i d h) ∙ rw (ne_eqb (get_or fields i d).number number e, add-one i) refl
 
 pub left_sizes : (fields : List FieldDef) (i : ℕ) (d : FieldDef) → i < length fields
-    → sizes (slots (drop i fields)) ≡ (get_or fields i d).size + sizes (slots (drop (i + 1) fields))
+    → sizes (shapes (drop i fields)) ≡ (get_or fields i d).size + sizes (shapes (drop (i + 1) fields))
 left_sizes fields i d h =
     let f = get_or fields i d in
-    ap (λ fs. sizes (slots fs)) (drop-cons fields i d h) ∙ sum_by-cons (λ (g : ℕ × ℕ). g.1) (f.code, f.size) (slots (drop (suc i) fields))
-    ∙ ap (λ k. f.size + sizes (slots (drop k fields))) (sym (add-one i))
+    ap (λ fs. sizes (shapes fs)) (drop-cons fields i d h) ∙ sum_by-cons (λ (g : ℕ × ℕ). g.1) (f.code, f.size) (shapes (drop (suc i) fields))
+    ∙ ap (λ k. f.size + sizes (shapes (drop k fields))) (sym (add-one i))
 
 -- the time of a field of four bytes
 pub time_here : (A : Type 0) (o : Order) (f : FieldDef) (bytes : List ℕ) → f.code ≡ 0x86 → f.size ≡ 4

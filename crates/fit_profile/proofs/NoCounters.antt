@@ -16,7 +16,7 @@ use Rattle.fit_profile.specs.declared.told.Last.{Last}
 use Rattle.fit_profile.specs.declared.told.Told.{Told}
 use Rattle.fit_profile.specs.Accumulated.{is_counter, tells_more}
 use Rattle.fit_profile.specs.inner.Counters.{ArePlacesOf, IsPlaceOf}
-use Rattle.fit_profile.specs.inner.InBytes.{slots}
+use Rattle.fit_profile.specs.inner.InBytes.{shapes}
 
 no-field : {A : Type 0} (fields : List FieldDef) (items : List (Items A)) (number : ℕ) → is_counter number ≡ true
     → list_any (λ f. is_counter f.number) fields ≡ false → first_field fields items number ≡ None
@@ -46,7 +46,7 @@ pub no-place : (c : Component) (d : MessageDef Global) → is_counter c.field �
     → (d.global == 20 && list_any (λ f. is_counter f.number) d.fields) ≡ false → IsPlaceOf c None d
 no-place c d is none = record {
   within = tt;
-  number = λ bytes. no-number_in c d (fields_from d.order (slots d.fields) bytes) is none;
+  number = λ bytes. no-number_in c d (fields_from d.order (shapes d.fields) bytes) is none;
 }
 
 pub no-places : (d : MessageDef Global) → (d.global == 20 && list_any (λ f. is_counter f.number) d.fields) ≡ false

@@ -7,7 +7,7 @@ ghost use Rattle.fit_record.specs.Records.{sizes};
 ghost use Rattle.fit_profile.specs.Accumulated as sums;
 ghost use Rattle.fit_profile.specs.Accumulated.{is_counter};
 ghost use Rattle.fit_profile.specs.inner.Counters.{ArePlacesOf, IsPlaceOf, counting, number_at, number_of_fields};
-ghost use Rattle.fit_profile.specs.inner.InBytes.{slots};
+ghost use Rattle.fit_profile.specs.inner.InBytes.{shapes};
 ghost use Rattle.fit_profile.specs.inner.Places.{AreFieldPlaces};
 
 use crate::component::Component;
@@ -37,7 +37,7 @@ fn has_items(c: Component, field: &FieldDef) -> bool
 fn place_in(c: Component, fields: &[FieldDef]) -> Option<u16>
     requires width { 0 < c.width }
     requires few { length fields.now < 256 }
-    ensures within { IfSome result (λ p. p + c.items * c.width ≤ sizes (slots fields.now)) }
+    ensures within { IfSome result (λ p. p + c.items * c.width ≤ sizes (shapes fields.now)) }
     ensures number { (order : Order) (bytes : List ℕ)
         → number_of_fields c order fields.now bytes ≡ number_at c order result bytes }
 {

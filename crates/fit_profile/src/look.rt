@@ -6,7 +6,7 @@ ghost use Rattle.fit_record.specs.Environment.{only};
 ghost use Rattle.fit_record.specs.ReadMessages.{field_from, fields_from};
 ghost use Rattle.fit_record.specs.Records.{sizes};
 ghost use Rattle.fit_profile.specs.Looks.{first_field};
-ghost use Rattle.fit_profile.specs.inner.InBytes.{slots};
+ghost use Rattle.fit_profile.specs.inner.InBytes.{shapes};
 
 use fit_base::Items;
 use fit_record::FieldDef;
@@ -38,13 +38,13 @@ pub(crate) fn first_in<'a>(
     bytes: &'a [u8],
     number: u8,
 ) -> Option<(&'a FieldDef, &'a [u8])>
-    requires { sizes (slots fields.now) ≤ length bytes.now }
+    requires { sizes (shapes fields.now) ≤ length bytes.now }
     ensures size { IfSome result (λ f. length f.1.now ≡ f.0.now.size) }
     ensures found { (order : Order) → option_map (λ f. (
       f.0.now,
       field_from {A = Global} order (f.0.now.code, f.0.now.size) f.1.now,
     )) result
-        ≡ first_field fields.now (fields_from order (slots fields.now) bytes.now) number }
+        ≡ first_field fields.now (fields_from order (shapes fields.now) bytes.now) number }
 {
     let mut rest = bytes;
     for field in fields {

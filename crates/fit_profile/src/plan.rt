@@ -8,7 +8,7 @@ ghost use Rattle.fit_record.specs.Records.{Fits, sizes};
 ghost use Rattle.fit_record.specs.declared.environment.Defined.{Defined};
 ghost use Rattle.fit_profile.specs.Accumulated.{is_counter, tells_more};
 ghost use Rattle.fit_profile.specs.Taken.{has_lone_fields};
-ghost use Rattle.fit_profile.specs.inner.InBytes.{slots};
+ghost use Rattle.fit_profile.specs.inner.InBytes.{shapes};
 ghost use Rattle.fit_profile.specs.inner.Places.{AreFieldPlaces};
 ghost use Rattle.fit_profile.specs.inner.Plans as plans;
 ghost use Rattle.fit_profile.specs.inner.Plans.{ArePlanned, HasRoomFor, IsPlan, IsSilent};
@@ -47,7 +47,7 @@ pub(crate) struct Plan {
 fn time_place(fields: &[FieldDef], places: &[u8; 256]) -> Option<u16>
     requires few { length fields.now < 256 }
     requires places { AreFieldPlaces places.now fields.now }
-    ensures within { IfSome result (λ p. p + 4 ≤ sizes (slots fields.now)) }
+    ensures within { IfSome result (λ p. p + 4 ≤ sizes (shapes fields.now)) }
     ensures time { (order : Order) (bytes : List ℕ)
         → plans.time_of_fields order fields.now bytes ≡ plans.time_at order result bytes }
 {

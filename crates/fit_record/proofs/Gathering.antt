@@ -60,5 +60,5 @@ fields_front {A} o (f ∷ fs) bytes =
     ∙ ap (λ n. fields_from o (f ∷ fs) (take n bytes)) (sym all)
 
 -- the bytes of the fields from place k on are those of the field there, and of those after it
-pub sizes_more : (slots : List (ℕ × ℕ)) (k : ℕ) (f : ℕ × ℕ) → slice_get slots k ≡ Some f → sizes (drop k slots) ≡ f.1 + sizes (drop (k + 1) slots)
-sizes_more slots k f at = ap sizes (dropped slots k f at) ∙ sum_by-cons (λ (g : ℕ × ℕ). g.1) f (drop (k + 1) slots)
+pub sizes_more : (shapes : List (ℕ × ℕ)) (k : ℕ) (f : ℕ × ℕ) → slice_get shapes k ≡ Some f → sizes (drop k shapes) ≡ f.1 + sizes (drop (k + 1) shapes)
+sizes_more shapes k f at = ap sizes (dropped shapes k f at) ∙ sum_by-cons (λ (g : ℕ × ℕ). g.1) f (drop (k + 1) shapes)

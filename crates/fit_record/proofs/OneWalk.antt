@@ -5,11 +5,11 @@ use Rattle.fit_record.proofs.Common.{slice_get, eqb-true, eq-eqb, zero, suc, len
 use Rattle.std.specs.Prelude.{IsSome, slice_index_or}
 use Rattle.fit_record.specs.Environment.{only, only_byte}
 use Rattle.fit_record.specs.inner.Describing.{described_by_three, so_far}
-use Rattle.fit_record.proofs.BytesOfNumbers.{slots, found_at, passed_at, none_left, sizes_at}
+use Rattle.fit_record.proofs.BytesOfNumbers.{shapes, found_at, passed_at, none_left, sizes_at}
 
 -- the byte that the fields have for a number
 abbrev pub byte_of : (A : Type 0) → Order → List FieldDef → List ℕ → ℕ → Option ℕ
-byte_of A o fields rest n = only_byte fields (fields_from {A = A} o (slots fields) rest) n
+byte_of A o fields rest n = only_byte fields (fields_from {A = A} o (shapes fields) rest) n
 
 -- What is found already stands for what the fields so far have.
 abbrev pub IsFound : (A : Type 0) → Order → List FieldDef → List ℕ → List (Option ℕ) → List FieldDef → List ℕ → Type 0
@@ -89,12 +89,12 @@ module _ (A : Type 0) (o : Order) (fields : List FieldDef) (k : ℕ) (f : FieldD
       sym (told f.number few) ∙ ap (λ x. so_far x (byte_of A o (drop k fields) rest f.number)) none
       ∙ sym (found_at A o fields k f at rest f.number refl within) ∙ ap only (sym front) ∙ nothing
 
-  pub less : sizes (slots (drop k fields)) ≤ length rest → sizes (slots (drop (k + 1) fields)) ≤ length after
+  pub less : sizes (shapes (drop k fields)) ≤ length rest → sizes (shapes (drop (k + 1) fields)) ≤ length after
   less enough = omega (arith, sizes_at A o fields k f at [] 0, enough, ap length back, length-drop f.size rest)
 
 -- nothing comes after what was found
 pub all_found : (A : Type 0) (o : Order) (fields later : List FieldDef) (bytes rest : List ℕ) (found : List (Option ℕ))
-    → IsFound A o fields bytes found later rest → sizes (slots later) ≤ length rest → length rest ≡ 0
+    → IsFound A o fields bytes found later rest → sizes (shapes later) ≤ length rest → length rest ≡ 0
     → (n : ℕ) → n < 3 → slice_index_or found n None ≡ byte_of A o fields bytes n
 all_found A o fields later bytes rest found told enough empty n few =
     sym (so_far-none (slice_index_or found n None)) ∙ ap (so_far (slice_index_or found n None)) (sym (none_left A o later rest n empty enough)) ∙ told n few

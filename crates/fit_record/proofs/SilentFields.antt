@@ -2,7 +2,7 @@
 use Rattle.fit_record.proofs.Common.{◌≡◌, ℕ, ◌+◌, ◌<◌, ◌≤◌, ◌==◌, false, List, [], ◌∷◌, ◌++◌, take, drop, refl, sym, ap, ◌∙◌, arith}
 use Rattle.fit_record.proofs.Common.{AllByRecursion, FieldDef, None, Option, Order, ne_eqb, sizes, drop-drop, take-append-drop}
 use Rattle.std.specs.Prelude.{slice_index_or}
-use Rattle.fit_record.proofs.BytesOfNumbers.{slots, passed, sizes_of}
+use Rattle.fit_record.proofs.BytesOfNumbers.{shapes, passed, sizes_of}
 use Rattle.fit_record.proofs.OneWalk.{IsFound, byte_of, so_far-none}
 use Rattle.fit_record.specs.inner.Describing.{so_far, IsPassedBy}
 
@@ -26,7 +26,7 @@ silent_passed : (A : Type 0) (o : Order) (xs ys : List FieldDef) (rest : List �
 silent_passed A o [] ys rest n few all = refl
 silent_passed A o (f ∷ xs) ys rest n few all = silent_first A o f (xs ++ ys) rest n few all.0 ∙ silent_passed A o xs ys rest n few all.1
 
-silent_sizes : (xs ys : List FieldDef) → AllByRecursion IsPassedBy xs → sizes (slots (xs ++ ys)) ≡ sizes (slots ys)
+silent_sizes : (xs ys : List FieldDef) → AllByRecursion IsPassedBy xs → sizes (shapes (xs ++ ys)) ≡ sizes (shapes ys)
 silent_sizes [] ys all = refl
 silent_sizes (f ∷ xs) ys all = omega (arith, sizes_of f (xs ++ ys), all.0.1, silent_sizes xs ys all.1)
 
@@ -42,8 +42,8 @@ module _ (fields : List FieldDef) (k m : ℕ) (all : AllByRecursion IsPassedBy (
       (sym (silent_passed A o (take m (drop k fields)) (drop (k + m) fields) rest n few all) ∙ ap (λ l. byte_of A o l rest n) parts)
       ∙ told n few
 
-  pub same_sizes : sizes (slots (drop (k + m) fields)) ≡ sizes (slots (drop k fields))
-  same_sizes = sym (silent_sizes (take m (drop k fields)) (drop (k + m) fields) all) ∙ ap (λ l. sizes (slots l)) parts
+  pub same_sizes : sizes (shapes (drop (k + m) fields)) ≡ sizes (shapes (drop k fields))
+  same_sizes = sym (silent_sizes (take m (drop k fields)) (drop (k + m) fields) all) ∙ ap (λ l. sizes (shapes l)) parts
 
 -- no field comes later
 pub none_later : (A : Type 0) (o : Order) (fields later : List FieldDef) (bytes rest : List ℕ) (found : List (Option ℕ))

@@ -1,4 +1,4 @@
 -- Definitions that no public contract cites: what private functions and proofs need.
 pub mod Kept
-pub mod SlotLists
+pub mod ShapeLists
 pub mod Describing

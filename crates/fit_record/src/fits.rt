@@ -92,7 +92,7 @@ fn wrong_field<A: Allocator>(first: u64, layout: &Layout<'_>, items: &[Items<A>]
     let count = layout.len();
     for n in 0..count {
         let place = first + n as u64;
-        let (code, size) = layout.slot(n);
+        let (code, size) = layout.shape(n);
         let Some(i) = items.get(n) else {
             return Some(place);
         };

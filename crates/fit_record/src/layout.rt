@@ -10,7 +10,7 @@ use std::marker::Model;
 
 /// Where base type codes and sizes stand.
 #[derive(Drop)]
-enum Slots<'a> {
+enum Shapes<'a> {
     /// In fields.
     Fields(&'a [FieldDef]),
     /// In base type codes, and in the developer fields that have them.
@@ -21,7 +21,7 @@ enum Slots<'a> {
 /// place. Clauses see the list of them.
 #[derive(Drop)]
 pub struct Layout<'a> {
-    slots: Slots<'a>,
+    shapes: Shapes<'a>,
 }
 
 impl<'a> Model for Layout<'a> {
@@ -29,11 +29,11 @@ impl<'a> Model for Layout<'a> {
 
     ghost Value = { List (ℕ × ℕ) };
 
-    ghost use Rattle.fit_record.specs.inner.SlotLists.{slots_of, HaveCodes};
+    ghost use Rattle.fit_record.specs.inner.ShapeLists.{shapes_of, HaveCodes};
 
-    ghost view = { λ l. slots_of l.slots };
+    ghost view = { λ l. shapes_of l.shapes };
 
-    ghost invariant = { λ l. HaveCodes l.slots };
+    ghost invariant = { λ l. HaveCodes l.shapes };
 }
 
 impl<'a> Layout<'a> {
@@ -42,28 +42,28 @@ impl<'a> Layout<'a> {
     pub fn len(&self) -> usize
         ensures { result ≡ length self.now }
     {
-        match self.slots {
-            Slots::Fields(fields) => fields.len(),
-            Slots::DevFields(_, fields) => fields.len(),
+        match self.shapes {
+            Shapes::Fields(fields) => fields.len(),
+            Shapes::DevFields(_, fields) => fields.len(),
         }
     }
 
     /// The base type code and the size of the field at a place. Places count from 0.
     #[inline(always)]
-    pub fn slot(&self, place: usize) -> (u8, u8)
+    pub fn shape(&self, place: usize) -> (u8, u8)
         requires { place < length self.now }
         ensures { slice_get self.now place ≡ Some result }
     {
-        match self.slots {
-            Slots::Fields(fields) => slot_of_field(fields, place),
-            Slots::DevFields(codes, fields) => slot_of_dev_field(codes, fields, place),
+        match self.shapes {
+            Shapes::Fields(fields) => shape_of_field(fields, place),
+            Shapes::DevFields(codes, fields) => shape_of_dev_field(codes, fields, place),
         }
     }
 }
 
 /// The base type code and the size of the field at a place.
 #[inline(always)]
-fn slot_of_field(fields: &[FieldDef], place: usize) -> (u8, u8)
+fn shape_of_field(fields: &[FieldDef], place: usize) -> (u8, u8)
     requires { place < length fields.now }
     ensures { slice_get (map (λ f. (f.code, f.size)) fields.now) place ≡ Some result }
 {
@@ -73,7 +73,7 @@ fn slot_of_field(fields: &[FieldDef], place: usize) -> (u8, u8)
 
 /// The base type code and the size of the developer field at a place, which has one of these base type codes.
 #[inline(always)]
-fn slot_of_dev_field(codes: &[u8], fields: &[DevDef], place: usize) -> (u8, u8)
+fn shape_of_dev_field(codes: &[u8], fields: &[DevDef], place: usize) -> (u8, u8)
     requires codes { length codes.now ≡ length fields.now }
     requires place { place < length fields.now }
     ensures { slice_get (zip codes.now (map (λ f. f.size) fields.now)) place ≡ Some result }
@@ -85,11 +85,11 @@ impl<A: Allocator> Defined<A> {
     /// Base type code and size of each field.
     #[inline(always)]
     pub fn layout(&self) -> Layout<'_>
-        ensures slots { result ≡ layout self.now }
+        ensures shapes { result ≡ layout self.now }
         ensures count { length result ≡ length self.now.definition.fields }
     {
         Layout {
-            slots: Slots::Fields(self.definition.fields.as_slice()),
+            shapes: Shapes::Fields(self.definition.fields.as_slice()),
         }
     }
 
@@ -97,15 +97,15 @@ impl<A: Allocator> Defined<A> {
     #[inline(always)]
     pub fn dev_layout(&self) -> Layout<'_>
         requires { IsSound self.now }
-        ensures slots { result ≡ dev_layout self.now }
+        ensures shapes { result ≡ dev_layout self.now }
         ensures count { length result ≡ length (dev_defs self.now.definition.dev) }
     {
         match &self.definition.dev {
             None => Layout {
-                slots: Slots::Fields(&[]),
+                shapes: Shapes::Fields(&[]),
             },
             Some(fields) => Layout {
-                slots: Slots::DevFields(self.dev_codes.as_slice(), fields.as_slice()),
+                shapes: Shapes::DevFields(self.dev_codes.as_slice(), fields.as_slice()),
             },
         }
     }

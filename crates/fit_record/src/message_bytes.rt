@@ -120,7 +120,7 @@ fn read_fields<'a, A: Allocator + Copy>(
     let mut items = Entries::with_capacity(alloc, layout.len())?;
     let mut rest = bytes;
     for place in 0..layout.len() {
-        let (code, size) = layout.slot(place);
+        let (code, size) = layout.shape(place);
         let (here, after) = rest.split_at(size as usize);
         push_field(&mut items, alloc, order, code, size, here)?;
         rest = after;

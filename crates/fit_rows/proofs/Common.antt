@@ -43,7 +43,7 @@ pub use Rattle.fit_rows.specs.EventTexts.{csv_line}
 pub use Rattle.fit_texts.specs.InstantText.{instant_text}
 unfoldable pub use Rattle.fit_texts.specs.InstantText.{date_after, date_in_year}
 pub use Rattle.fit_rows.specs.inner.FrameKeys.{FrameKey, end_of, field_key, frame_text, frames_of, head_text, tail_text, value_row, values_text, dev_frame_key}
-pub use Rattle.fit_rows.specs.inner.FrameKeys.{frame_keys, frame_slots, key_rows, value_rows}
+pub use Rattle.fit_rows.specs.inner.FrameKeys.{frame_keys, frame_shapes, key_rows, value_rows}
 pub use Rattle.fit_shown.specs.Frames.{FrameText, two_cells, HasFields, HasItems, TakesFields}
 pub use Rattle.fit_texts.specs.MessageKeys.{DevKey, MessageKey, dev_keys, message_key}
 pub use Rattle.fit_texts.specs.Sheets.{and_sheet}

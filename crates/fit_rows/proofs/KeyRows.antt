@@ -3,36 +3,36 @@ use Rattle.fit_rows.proofs.Common.{◌≡◌, ◌∙◌, ◌++◌, [], ◌∷◌
 use Rattle.fit_rows.proofs.Common.{Global, Items, FieldDef, DevDef, Naming, Defined, Record, Values}
 use Rattle.fit_rows.proofs.Common.{defined_at, known, dev_defs, dev_layout, layout, namings_at, header_time, previous_time, HasRows}
 use Rattle.fit_rows.proofs.Common.{data_row, data_rows, dev_row, dev_rows, field_row, field_rows, message_rows}
-use Rattle.fit_rows.proofs.Common.{FrameKey, dev_frame_key, dev_keys, field_key, frame_keys, frame_slots, key_rows, message_key, value_row}
+use Rattle.fit_rows.proofs.Common.{FrameKey, dev_frame_key, dev_keys, field_key, frame_keys, frame_shapes, key_rows, message_key, value_row}
 use Rattle.fit_rows.proofs.Common.{value_rows}
 use Rattle.std.proofs.Common.{ℕ, List, Option, Some, option_map, unwrap_or}
 use Rattle.std.specs.Prelude.{Vec}
-use Rattle.fit_shown.proofs.FieldWalks.{field_slot}
+use Rattle.fit_shown.proofs.FieldWalks.{field_shape}
 
 -- ---- codes and sizes
 
-slots_of_fields : (global : ℕ) (fields : List FieldDef)
-    → map {B = ℕ × ℕ} (λ f. (f.code, f.size)) (map (field_key global) fields) ≡ map field_slot fields
-slots_of_fields global [] = refl
-slots_of_fields global (f ∷ fields) = ap (λ xs. field_slot f ∷ xs) (slots_of_fields global fields)
+shapes_of_fields : (global : ℕ) (fields : List FieldDef)
+    → map {B = ℕ × ℕ} (λ f. (f.code, f.size)) (map (field_key global) fields) ≡ map field_shape fields
+shapes_of_fields global [] = refl
+shapes_of_fields global (f ∷ fields) = ap (λ xs. field_shape f ∷ xs) (shapes_of_fields global fields)
 
-slots_of_devs : (fields : List DevDef) (coded : List ℕ) (namings : List Naming) → length coded ≡ length fields → length namings ≡ length fields
+shapes_of_devs : (fields : List DevDef) (coded : List ℕ) (namings : List Naming) → length coded ≡ length fields → length namings ≡ length fields
     → map {B = ℕ × ℕ} (λ f. (f.code, f.size)) (map dev_frame_key (dev_keys fields coded namings)) ≡ zip coded (map (λ f. f.size) fields)
-slots_of_devs [] [] namings long named = refl
-slots_of_devs [] (c ∷ coded) namings long named = absurd (omega (arith, long))
-slots_of_devs (f ∷ fields) [] namings long named = absurd (omega (arith, long))
-slots_of_devs (f ∷ fields) (c ∷ coded) [] long named = absurd (omega (arith, named))
-slots_of_devs (f ∷ fields) (c ∷ coded) (n ∷ namings) long named =
-    ap (λ xs. (c, f.size) ∷ xs) (slots_of_devs fields coded namings (omega (arith, long)) (omega (arith, named)))
+shapes_of_devs [] [] namings long named = refl
+shapes_of_devs [] (c ∷ coded) namings long named = absurd (omega (arith, long))
+shapes_of_devs (f ∷ fields) [] namings long named = absurd (omega (arith, long))
+shapes_of_devs (f ∷ fields) (c ∷ coded) [] long named = absurd (omega (arith, named))
+shapes_of_devs (f ∷ fields) (c ∷ coded) (n ∷ namings) long named =
+    ap (λ xs. (c, f.size) ∷ xs) (shapes_of_devs fields coded namings (omega (arith, long)) (omega (arith, named)))
 
 -- the codes and sizes by which the items of a definition's messages are known
-pub slots_are : (before : List (Record Global)) (local : ℕ) (p : Defined Global) → length p.dev_codes ≡ length (dev_defs p.definition.dev)
-    → length (namings_at before local) ≡ length (dev_defs p.definition.dev) → frame_slots (message_key before local p) ≡ layout p ++ dev_layout p
-slots_are before local p coded named =
+pub shapes_are : (before : List (Record Global)) (local : ℕ) (p : Defined Global) → length p.dev_codes ≡ length (dev_defs p.definition.dev)
+    → length (namings_at before local) ≡ length (dev_defs p.definition.dev) → frame_shapes (message_key before local p) ≡ layout p ++ dev_layout p
+shapes_are before local p coded named =
     let fields = map (field_key p.definition.global) p.definition.fields in
     let devs = map dev_frame_key (dev_keys (dev_defs p.definition.dev) p.dev_codes (namings_at before local)) in
     map-append {B = ℕ × ℕ} (λ f. (f.code, f.size)) fields devs
-    ∙ (λ i. slots_of_fields p.definition.global p.definition.fields i ++ slots_of_devs (dev_defs p.definition.dev) p.dev_codes (namings_at before local)
+    ∙ (λ i. shapes_of_fields p.definition.global p.definition.fields i ++ shapes_of_devs (dev_defs p.definition.dev) p.dev_codes (namings_at before local)
     coded named i)
 
 -- ---- rows

@@ -9,7 +9,7 @@ ghost use Rattle.fit_texts.specs.Words as words;
 ghost use Rattle.fit_rows.specs.ChainRows as rows;
 ghost use Rattle.fit_texts.specs.InstantText.{instant_text};
 ghost use Rattle.fit_shown.specs.Frames.{HasFields, HasItems, TakesFields};
-ghost use Rattle.fit_rows.specs.inner.FrameKeys.{dev_frame_key, end_of, field_key, frame_keys, frame_slots, frame_text, frames_of, key_rows, tail_text, values_text};
+ghost use Rattle.fit_rows.specs.inner.FrameKeys.{dev_frame_key, end_of, field_key, frame_keys, frame_shapes, frame_text, frames_of, key_rows, tail_text, values_text};
 ghost use Rattle.fit_texts.specs.MessageKeys.{message_key};
 ghost use Rattle.fit_texts.specs.Sheets.{and_sheet};
 
@@ -333,8 +333,8 @@ impl Template {
         time: Option<u32>,
         items: &mut ItemBytes<'_>,
     ) -> Result<(), AllocError>
-        requires { HasFields HasItems items.old (frame_slots self.now) }
-        ensures { OnOk result (TakesFields HasItems items.old items.new (frame_slots self.now)
+        requires { HasFields HasItems items.old (frame_shapes self.now) }
+        ensures { OnOk result (TakesFields HasItems items.old items.new (frame_shapes self.now)
             (λ all. HasRows (key_rows self.now offset time all) text.old text.new)) }
     {
         let at = self.put_first(text, &mut tools.sheet, &mut tools.times, offset, time)?;

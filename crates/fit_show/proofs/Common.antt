@@ -33,4 +33,4 @@ pub use Rattle.fit_shown.specs.Frames.{HasFields, HasItems, TakesFields}
 pub use Rattle.fit_texts.specs.MessageKeys.{DevKey, MessageKey, dev_keys, message_key}
 pub use Rattle.fit_texts.specs.Sheets.{and_sheet}
 pub use Rattle.fit_show.specs.inner.Showing.{ShownKey, first_head, key_text, keys_text, line_front, shown_key, shown_keys, PartKey, dev_field_part}
-pub use Rattle.fit_show.specs.inner.Showing.{field_part, line_head, line_keys, line_slots, line_text, own_end, own_parts, part_texts}
+pub use Rattle.fit_show.specs.inner.Showing.{field_part, line_head, line_keys, line_shapes, line_text, own_end, own_parts, part_texts}

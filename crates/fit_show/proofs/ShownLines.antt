@@ -5,7 +5,7 @@ use Rattle.fit_show.proofs.Common.{Naming, Defined, Values, Record, Data, dev_la
 use Rattle.fit_show.proofs.Common.{instant_text, joined, listed, message_front, message_label, message_line, record_line}
 use Rattle.fit_show.proofs.Common.{separator, shown_cell, shown_dev, shown_devs, shown_field, shown_fields, shown_part, time_part}
 use Rattle.fit_show.proofs.Common.{unit_part, DevKey, MessageKey, PartKey, ShownKey, dev_field_part, dev_keys, field_part, first_head, key_text, keys_text}
-use Rattle.fit_show.proofs.Common.{line_front, line_head, message_key, line_keys, line_slots, line_text, own_end, own_parts, part_texts, shown_key, shown_keys}
+use Rattle.fit_show.proofs.Common.{line_front, line_head, message_key, line_keys, line_shapes, line_text, own_end, own_parts, part_texts, shown_key, shown_keys}
 use Rattle.fit_show.proofs.Common.{HasFields, TakesFields}
 use Rattle.std.proofs.Common.{◌<◌, ℕ, List}
 use Rattle.std.proofs.Math.Seq.{drop-append_seam}
@@ -40,18 +40,18 @@ devs_shown (f ∷ fields) (code ∷ coded) (n ∷ namings) [] = refl
 devs_shown (f ∷ fields) (code ∷ coded) (n ∷ namings) (i ∷ items) = ap (λ ts. shown_dev f code n i ∷ ts) (devs_shown fields coded namings items)
 
 -- what is known of the developer fields to take their items
-dev_key_slots : (fields : List DevDef) (coded : List ℕ) (namings : List Naming) → length namings ≡ length fields
+dev_key_shapes : (fields : List DevDef) (coded : List ℕ) (namings : List Naming) → length namings ≡ length fields
     → map (λ (d : DevKey). (d.code, d.size)) (dev_keys fields coded namings) ≡ zip coded (map (λ f. f.size) fields)
-dev_key_slots [] [] namings long = refl
-dev_key_slots [] (code ∷ coded) namings long = refl
-dev_key_slots (f ∷ fields) [] namings long = refl
-dev_key_slots (f ∷ fields) (code ∷ coded) [] long = absurd (omega (arith, long))
-dev_key_slots (f ∷ fields) (code ∷ coded) (n ∷ namings) long = ap (λ ts. (code, f.size) ∷ ts) (dev_key_slots fields coded namings (omega (arith, long)))
+dev_key_shapes [] [] namings long = refl
+dev_key_shapes [] (code ∷ coded) namings long = refl
+dev_key_shapes (f ∷ fields) [] namings long = refl
+dev_key_shapes (f ∷ fields) (code ∷ coded) [] long = absurd (omega (arith, long))
+dev_key_shapes (f ∷ fields) (code ∷ coded) (n ∷ namings) long = ap (λ ts. (code, f.size) ∷ ts) (dev_key_shapes fields coded namings (omega (arith, long)))
 
-pub slots_known : (before : List (Record Global)) (local : ℕ) (p : Defined Global) → defined_at (known before) local ≡ Some p
-    → line_slots (message_key before local p) ≡ layout p ++ dev_layout p
-slots_known before local p place =
-    ap (λ ts. layout p ++ ts) (dev_key_slots (dev_defs p.definition.dev) p.dev_codes (namings_at before local) (namings_long before local p place))
+pub shapes_known : (before : List (Record Global)) (local : ℕ) (p : Defined Global) → defined_at (known before) local ≡ Some p
+    → line_shapes (message_key before local p) ≡ layout p ++ dev_layout p
+shapes_known before local p place =
+    ap (λ ts. layout p ++ ts) (dev_key_shapes (dev_defs p.definition.dev) p.dev_codes (namings_at before local) (namings_long before local p place))
 
 -- the line of a message
 pub line_known : (before : List (Record Global)) (p : Defined Global) (local : ℕ) (at : Option ℕ) (v : Values Global)
@@ -134,26 +134,26 @@ line_cells k items long =
     ∙ ap (λ t. t ++ codes "\n") both
 
 -- what is known of a field to take its items
-abbrev pub key_slot : ShownKey → ℕ × ℕ
-key_slot k = (k.code, k.size)
+abbrev pub key_shape : ShownKey → ℕ × ℕ
+key_shape k = (k.code, k.size)
 
-abbrev pub dev_slot : DevKey → ℕ × ℕ
-dev_slot d = (d.code, d.size)
+abbrev pub dev_shape : DevKey → ℕ × ℕ
+dev_shape d = (d.code, d.size)
 
-own_slots : (before global : ℕ) (fields : List FieldDef) (end : List ℕ)
-    → map key_slot (shown_keys before (map (field_part global) fields) end) ≡ map (λ f. (f.code, f.size)) fields
-own_slots before global [] end = refl
-own_slots before global (f ∷ fields) end = ap (λ xs. (f.code, f.size) ∷ xs) (own_slots (before + 1) global fields end)
+own_shapes : (before global : ℕ) (fields : List FieldDef) (end : List ℕ)
+    → map key_shape (shown_keys before (map (field_part global) fields) end) ≡ map (λ f. (f.code, f.size)) fields
+own_shapes before global [] end = refl
+own_shapes before global (f ∷ fields) end = ap (λ xs. (f.code, f.size) ∷ xs) (own_shapes (before + 1) global fields end)
 
-dev_slots : (before : ℕ) (devs : List DevKey) (end : List ℕ)
-    → map key_slot (shown_keys before (map dev_field_part devs) end) ≡ map dev_slot devs
-dev_slots before [] end = refl
-dev_slots before (d ∷ devs) end = ap (λ xs. (d.code, d.size) ∷ xs) (dev_slots (before + 1) devs end)
+dev_shapes : (before : ℕ) (devs : List DevKey) (end : List ℕ)
+    → map key_shape (shown_keys before (map dev_field_part devs) end) ≡ map dev_shape devs
+dev_shapes before [] end = refl
+dev_shapes before (d ∷ devs) end = ap (λ xs. (d.code, d.size) ∷ xs) (dev_shapes (before + 1) devs end)
 
-pub shown_slots : (k : MessageKey) → map key_slot (line_keys k) ≡ line_slots k
-shown_slots k =
-    map-append key_slot (shown_keys 0 (own_parts k.own) (own_end k)) (shown_keys (length k.own.fields) (map dev_field_part k.devs) (codes "\n"))
-    ∙ ap₂ (λ a b. a ++ b) (own_slots 0 k.own.global k.own.fields (own_end k)) (dev_slots (length k.own.fields) k.devs (codes "\n"))
+pub shown_shapes : (k : MessageKey) → map key_shape (line_keys k) ≡ line_shapes k
+shown_shapes k =
+    map-append key_shape (shown_keys 0 (own_parts k.own) (own_end k)) (shown_keys (length k.own.fields) (map dev_field_part k.devs) (codes "\n"))
+    ∙ ap₂ (λ a b. a ++ b) (own_shapes 0 k.own.global k.own.fields (own_end k)) (dev_shapes (length k.own.fields) k.devs (codes "\n"))
 
 pub keys_long : {X : Type 0} (part : X → PartKey) (before : ℕ) (xs : List X) (end : List ℕ) → length (shown_keys before (map part xs) end) ≡ length xs
 keys_long part before [] end = refl
@@ -238,16 +238,16 @@ line_parts k at items old one two three four first second third fourth long =
 
 module _ {S : Type 0} (has : KnowsItems S) (from : S) (key : MessageKey) (before : List (Record Global)) (p : Defined Global) (local : ℕ) where
   module _ (same : key ≡ message_key before local p) (place : defined_at (known before) local ≡ Some p) where
-    slots : line_slots key ++ [] ≡ layout p ++ dev_layout p
-    slots = append-nil (line_slots key) ∙ ap line_slots same ∙ slots_known before local p place
+    shapes : line_shapes key ++ [] ≡ layout p ++ dev_layout p
+    shapes = append-nil (line_shapes key) ∙ ap line_shapes same ∙ shapes_known before local p place
 
-    pub line_items : (all : List (Items Global)) → has from (layout p ++ dev_layout p) all → HasFields has from (line_slots key)
-    line_items all h = ([], all, subst (λ fs. has from fs all) (sym slots) h)
+    pub line_items : (all : List (Items Global)) → has from (layout p ++ dev_layout p) all → HasFields has from (line_shapes key)
+    line_items all h = ([], all, subst (λ fs. has from fs all) (sym shapes) h)
 
-    pub line_put : (now : S) (at : Option ℕ) (old new : List ℕ) → TakesFields has from now (line_slots key) (λ all. new ≡ old ++ line_text key at all)
+    pub line_put : (now : S) (at : Option ℕ) (old new : List ℕ) → TakesFields has from now (line_shapes key) (λ all. new ≡ old ++ line_text key at all)
         → (v : Values Global) → v.local ≡ local → length v.fields ≡ length p.definition.fields → at ≡ time before (Data v)
         → has from (layout p ++ dev_layout p) (v.fields ++ v.dev) → new ≡ old ++ record_line before (Data v)
     line_put now at old new takes v is long timed h =
         let all = v.fields ++ v.dev in
-        let t = takes [] all (subst (λ fs. has from fs all) (sym slots) h) in
+        let t = takes [] all (subst (λ fs. has from fs all) (sym shapes) h) in
         t.2 ∙ ap (λ k. old ++ line_text k at all) same ∙ ap (λ u. old ++ u) (line_known before p local at v place is long timed)

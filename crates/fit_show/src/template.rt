@@ -5,7 +5,7 @@ ghost use Rattle.fit_record.specs.Sound.{IsSound};
 ghost use Rattle.fit_profile.specs.Looks.{known};
 ghost use Rattle.fit_show.specs.ShowLines as lines;
 ghost use Rattle.fit_shown.specs.Frames.{HasFields, HasItems, TakesFields};
-ghost use Rattle.fit_show.specs.inner.Showing.{dev_field_part, field_part, first_head, keys_text, line_front, line_slots, line_text, shown_keys};
+ghost use Rattle.fit_show.specs.inner.Showing.{dev_field_part, field_part, first_head, keys_text, line_front, line_shapes, line_text, shown_keys};
 ghost use Rattle.fit_texts.specs.MessageKeys.{message_key};
 ghost use Rattle.fit_texts.specs.Sheets.{and_sheet};
 
@@ -198,8 +198,8 @@ impl LineTemplate {
         time: Option<u32>,
         items: &mut ItemBytes<'_>,
     ) -> Result<(), AllocError>
-        requires { HasFields HasItems items.old (line_slots self.now) }
-        ensures { OnOk result (TakesFields HasItems items.old items.new (line_slots self.now)
+        requires { HasFields HasItems items.old (line_shapes self.now) }
+        ensures { OnOk result (TakesFields HasItems items.old items.new (line_shapes self.now)
             (λ all. text.new.items ≡ text.old.items ++ line_text self.now time all)) }
     {
         let at = self.put_label(text, sheet, times, time)?;

@@ -6,25 +6,25 @@ use Rattle.fit_step.proofs.Common.{◌==◌, ◌≤◌, cond-false, ne_eqb, item
 use Rattle.fit_record.proofs.FirstOfNumber.{dropped}
 
 -- a field without bytes is passed by
-pub passed_by : (slots : List (ℕ × ℕ)) (k : ℕ) (f : ℕ × ℕ) → slice_get slots k ≡ Some f → f.1 ≤ 0
-    → next_with_bytes k (drop k slots) ≡ next_with_bytes (k + 1) (drop (k + 1) slots)
-passed_by slots k f at none =
+pub passed_by : (shapes : List (ℕ × ℕ)) (k : ℕ) (f : ℕ × ℕ) → slice_get shapes k ≡ Some f → f.1 ≤ 0
+    → next_with_bytes k (drop k shapes) ≡ next_with_bytes (k + 1) (drop (k + 1) shapes)
+passed_by shapes k f at none =
     let next : suc k ≡ k + 1 = omega arith in
-    ap (next_with_bytes k) (dropped slots k f at) ∙ cond-true (f.1 == 0) _ _ (eq-eqb f.1 0 (omega (arith, none)))
-    ∙ ap (λ n. next_with_bytes n (drop (k + 1) slots)) next
+    ap (next_with_bytes k) (dropped shapes k f at) ∙ cond-true (f.1 == 0) _ _ (eq-eqb f.1 0 (omega (arith, none)))
+    ∙ ap (λ n. next_with_bytes n (drop (k + 1) shapes)) next
 
 -- one with bytes is the next
-pub next_at : (slots : List (ℕ × ℕ)) (k : ℕ) (f : ℕ × ℕ) → slice_get slots k ≡ Some f → 0 < f.1
-    → next_with_bytes k (drop k slots) ≡ Some (k, item_width f.0 f.1, f.1)
-next_at slots k f at some = ap (next_with_bytes k) (dropped slots k f at) ∙ cond-false (f.1 == 0) _ _ (ne_eqb f.1 0 (λ e. absurd (omega (arith, e, some))))
+pub next_at : (shapes : List (ℕ × ℕ)) (k : ℕ) (f : ℕ × ℕ) → slice_get shapes k ≡ Some f → 0 < f.1
+    → next_with_bytes k (drop k shapes) ≡ Some (k, item_width f.0 f.1, f.1)
+next_at shapes k f at some = ap (next_with_bytes k) (dropped shapes k f at) ∙ cond-false (f.1 == 0) _ _ (ne_eqb f.1 0 (λ e. absurd (omega (arith, e, some))))
 
 -- one field more, without items
-pub one_more_field : {A : Type 0} (slots : List (ℕ × ℕ)) (k : ℕ) (f : ℕ × ℕ) → slice_get slots k ≡ Some f
-    → map (no_items {A = A}) (take (k + 1) slots) ≡ map no_items (take k slots) ++ no_items f ∷ []
-one_more_field slots k f at =
+pub one_more_field : {A : Type 0} (shapes : List (ℕ × ℕ)) (k : ℕ) (f : ℕ × ℕ) → slice_get shapes k ≡ Some f
+    → map (no_items {A = A}) (take (k + 1) shapes) ≡ map no_items (take k shapes) ++ no_items f ∷ []
+one_more_field shapes k f at =
     ap (map no_items)
-    (take_more slots k f (slice_get_within slots k f at) ∙ ap (λ x. take k slots ++ x ∷ []) (get_or_from_slice_get slots k f f at))
-    ∙ map-append no_items (take k slots) (f ∷ [])
+    (take_more shapes k f (slice_get_within shapes k f at) ∙ ap (λ x. take k shapes ++ x ∷ []) (get_or_from_slice_get shapes k f f at))
+    ∙ map-append no_items (take k shapes) (f ∷ [])
 
 -- ---- a number more in a field
 

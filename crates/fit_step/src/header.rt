@@ -105,7 +105,7 @@ fn empty_fields<A: Allocator + Copy>(
     }
     let mut items = Entries::with_capacity(alloc, layout.len())?;
     for place in 0..layout.len() {
-        let (code, size) = layout.slot(place);
+        let (code, size) = layout.shape(place);
         push_empty(&mut items, alloc, code, size)?;
     }
     Ok(items)

@@ -79,7 +79,7 @@ fn field_from(layout: &Layout<'_>, from: usize) -> Option<(u8, u8, u8)>
     ensures { result ≡ next_with_bytes from (drop from layout.now) }
 {
     for place in from..layout.len() {
-        let (code, size) = layout.slot(place);
+        let (code, size) = layout.shape(place);
         if size > 0 {
             return Some((place as u8, width_of(Code(code), size), size));
         }

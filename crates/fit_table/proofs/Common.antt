@@ -49,4 +49,4 @@ pub use Rattle.fit_table.specs.Table.{table_event_rows}
 unfoldable pub use Rattle.fit_table.specs.Table.{table_events_rows, table_files_rows, table_records_rows}
 pub use Rattle.fit_texts.specs.Minutes.{seconds_text}
 pub use Rattle.fit_table.specs.inner.TableCells.{shown_text, PutsCell, AddsCell, effort_cells, place_cells}
-pub use Rattle.fit_table.specs.inner.TableColumns.{ArePlaces, AreInBytes, TellsAmounts, IsColumn, IsFirst, IsPosition, items_at, slots}
+pub use Rattle.fit_table.specs.inner.TableColumns.{ArePlaces, AreInBytes, TellsAmounts, IsColumn, IsFirst, IsPosition, items_at, shapes}

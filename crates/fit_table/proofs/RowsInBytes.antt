@@ -1,6 +1,6 @@
 -- The row of a record message in its bytes.
 use Rattle.fit_table.proofs.Common.{◌≡◌, ◌∙◌, ◌∷◌, [], length, Bool, false, sym, ap, arith, eq-eqb, ne_eqb, option_and_then, Global, Items, Defined, FieldDef}
-use Rattle.fit_table.proofs.Common.{Record, Data, Values, defined_at, known, first_field, layout, dev_layout, Row, AreInBytes, ArePlaces, TellsAmounts, slots}
+use Rattle.fit_table.proofs.Common.{Record, Data, Values, defined_at, known, first_field, layout, dev_layout, Row, AreInBytes, ArePlaces, TellsAmounts, shapes}
 use Rattle.fit_table.proofs.Common.{table_message_rows}
 use Rattle.fit_table.proofs.Common.{IsSomeAnd, table_row}
 use Rattle.std.proofs.Common.{◌%◌, ◌^◌, ◌≤◌, ◌==◌, ℕ, List, Option, Some, None, if◌then◌else◌}
@@ -16,7 +16,7 @@ use Rattle.fit_profile.specs.declared.told.Told.{Told}
 use Rattle.fit_table.specs.declared.amounts.Amounts.{Amounts}
 use Rattle.fit_table.specs.declared.columns.Places.{Places}
 
-sizes_within : (m : MessageBytes Global) → length m.body.now ≡ message_size m.defined.now → sizes (slots m.defined.now.definition.fields) ≤ length m.body.now
+sizes_within : (m : MessageBytes Global) → length m.body.now ≡ message_size m.defined.now → sizes (shapes m.defined.now.definition.fields) ≤ length m.body.now
 sizes_within m long = omega (arith, long, sum_by-append (λ (f : ℕ × ℕ). f.1) (layout m.defined.now) (dev_layout m.defined.now))
 
 -- the numbers of a message stand in its bytes

@@ -4,7 +4,7 @@ use Rattle.fit_table.proofs.Common.{[], ◌∷◌, ◌||◌}
 use Rattle.fit_table.proofs.Common.{arith, add-one, eq-eqb, inl, inr, ◌&&◌, not, nat_lt, option_and_then, slice_get, IsSomeAnd, Global, cases_Bool, ne_eqb}
 use Rattle.fit_table.proofs.Common.{Items, Order, base_type, item_width, twos_complement, FieldDef, MessageDef, Values, first_field, field, Meaning}
 use Rattle.fit_table.proofs.Common.{first_number, known_number}
-use Rattle.fit_table.proofs.Common.{valid_number, item_text, IsFormOf, amount_text, value_text, IsFirst, items_at, slots}
+use Rattle.fit_table.proofs.Common.{valid_number, item_text, IsFormOf, amount_text, value_text, IsFirst, items_at, shapes}
 use Rattle.fit_table.proofs.Common.{take-take}
 use Rattle.fit_table.proofs.Common.{lt-ltb, degrees_text, take-append-drop, length-take, IsBytes}
 use Rattle.std.proofs.Common.{◌==◌, ◌<◌, ℕ, List, Option, Some, None, ◌⊎◌}
@@ -30,7 +30,7 @@ use Rattle.fit_texts.proofs.ItemFacts.{lone_below}
 
 -- the first field of this number in the bytes of fields
 abbrev pub first_in : Order → List FieldDef → List ℕ → ℕ → Option (FieldDef × Items Global)
-first_in o fields bytes number = first_field fields (fields_from o (slots fields) bytes) number
+first_in o fields bytes number = first_field fields (fields_from o (shapes fields) bytes) number
 
 -- the items of a field whose bytes begin these
 abbrev pub items_of : Order → FieldDef → List ℕ → Items Global
@@ -60,16 +60,16 @@ pub have_none : (fields : List FieldDef) (number : ℕ) → list_any (λ (f : Fi
 have_none fields number none o bytes = none_in o fields bytes number none
 
 pub sizes_left : (fields : List FieldDef) (i : ℕ) (d : FieldDef) → i < length fields
-    → sizes (slots (drop i fields)) ≡ (get_or fields i d).size + sizes (slots (drop (i + 1) fields))
+    → sizes (shapes (drop i fields)) ≡ (get_or fields i d).size + sizes (shapes (drop (i + 1) fields))
 sizes_left fields i d h =
     let f = get_or fields i d in
-    ap (λ fs. sizes (slots fs)) (drop-cons fields i d h) ∙ sum_by-cons (λ (g : ℕ × ℕ). g.1) (f.code, f.size) (slots (drop (suc i) fields))
-    ∙ ap (λ k. f.size + sizes (slots (drop k fields))) (sym (add-one i))
+    ap (λ fs. sizes (shapes fs)) (drop-cons fields i d h) ∙ sum_by-cons (λ (g : ℕ × ℕ). g.1) (f.code, f.size) (shapes (drop (suc i) fields))
+    ∙ ap (λ k. f.size + sizes (shapes (drop k fields))) (sym (add-one i))
 
 -- the spot of a field that is the first of its number
 pub first_spot : (fields : List FieldDef) (number offset : ℕ) (f : FieldDef) (spot : Option Spot)
     → ((o : Order) (bytes : List ℕ) → first_in o fields bytes number ≡ Some (f, items_of o f (drop offset bytes)))
-    → f.number ≡ number → offset + f.size ≤ sizes (slots fields) → IsSpotAt offset f spot → IsSpot fields number spot
+    → f.number ≡ number → offset + f.size ≤ sizes (shapes fields) → IsSpotAt offset f spot → IsSpot fields number spot
 first_spot fields number offset f None finds is within placed = λ o bytes. ap held_number (finds o bytes) ∙ placed o (take f.size (drop offset bytes))
 first_spot fields number offset f (Some s) finds is within placed = record {
   finds = subst (λ (k : ℕ). (o : Order) (bytes : List ℕ) → first_in o fields bytes number ≡ Some (s.field, items_of o s.field (drop k bytes))) (sym placed.0)
@@ -81,7 +81,7 @@ first_spot fields number offset f (Some s) finds is within placed = record {
 }
 
 -- it is in the bytes of a message that are long enough
-pub is_in : (fields : List FieldDef) (number : ℕ) (s : Spot) (bytes : List ℕ) → IsFirst fields number s → sizes (slots fields) ≤ length bytes → IsIn s bytes
+pub is_in : (fields : List FieldDef) (number : ℕ) (s : Spot) (bytes : List ℕ) → IsFirst fields number s → sizes (shapes fields) ≤ length bytes → IsIn s bytes
 is_in fields number s bytes first within = record { item = first.item; within = omega (arith, first.within, within) }
 
 -- ---- the first item of a field
@@ -175,7 +175,7 @@ some_meaning code form (Some m) known = (m, refl, known)
 
 -- the first field of a number in the bytes of a message
 pub first_at : (s : Spot) (o : Order) (bytes : List ℕ) (d : MessageDef Global) (v : Values Global) (number : ℕ) → IsFirst d.fields number s
-    → v.fields ≡ fields_from o (slots d.fields) bytes → first_field d.fields v.fields number ≡ Some (s.field, items_at s o bytes)
+    → v.fields ≡ fields_from o (shapes d.fields) bytes → first_field d.fields v.fields number ≡ Some (s.field, items_at s o bytes)
 first_at s o bytes d v number first are = ap (λ (items : List (Items Global)). first_field d.fields items number) are ∙ first.finds o bytes
 
 abbrev meant_as : Option Meaning → FieldDef × Items Global → Option (ℤ × Meaning)

@@ -11,12 +11,12 @@ use Rattle.fit_profile.specs.Accumulated.{accumulated_power, distance, number_in
 use Rattle.fit_profile.specs.Looks.{first_field}
 use Rattle.fit_profile.specs.declared.component.Component.{Component}
 use Rattle.fit_profile.specs.declared.counter_places.CounterPlaces.{CounterPlaces}
-use Rattle.fit_profile.specs.inner.InBytes.{slots}
+use Rattle.fit_profile.specs.inner.InBytes.{shapes}
 
 -- the number of a component in fields whose bytes begin these
 abbrev pub number_of_fields : Component → Order → List FieldDef → List ℕ → Option ℕ
 number_of_fields c order fields bytes =
-    option_and_then (λ f. number_in c f.1) (first_field {A = Global} fields (fields_from order (slots fields) bytes) c.field)
+    option_and_then (λ f. number_in c f.1) (first_field {A = Global} fields (fields_from order (shapes fields) bytes) c.field)
 
 -- a number that counts
 abbrev pub counting : Component → ℕ → Option ℕ
@@ -28,7 +28,7 @@ number_at c order place bytes = option_and_then (λ p. counting c (little (numbe
 
 -- The items of the component's number begin at this place in the bytes of a message. Without a place no message has such a number.
 pub record IsPlaceOf (c : Component) (place : Option ℕ) (d : MessageDef Global) : Type 0 where
-  pub within : IfSome place (λ p. p + c.items * c.width ≤ sizes (slots d.fields))
+  pub within : IfSome place (λ p. p + c.items * c.width ≤ sizes (shapes d.fields))
   pub number : (bytes : List ℕ)
       → (if d.global == 20 then number_of_fields c d.order d.fields bytes else None) ≡ number_at c d.order place bytes
 

@@ -3,5 +3,5 @@ use Rattle.std.specs.Prelude.{ℕ, List, map}
 use Rattle.fit_record.specs.declared.definition.FieldDef.{FieldDef}
 
 -- base type code and size of each field
-abbrev pub slots : List FieldDef → List (ℕ × ℕ)
-slots fields = map (λ f. (f.code, f.size)) fields
+abbrev pub shapes : List FieldDef → List (ℕ × ℕ)
+shapes fields = map (λ f. (f.code, f.size)) fields

@@ -20,13 +20,13 @@ use Rattle.fit_profile.specs.Taken.{has_lone_fields}
 use Rattle.fit_profile.specs.Times.{time_in_field, valid_time}
 use Rattle.fit_profile.specs.declared.plan.Plan.{Plan}
 use Rattle.fit_profile.specs.inner.Counters.{ArePlacesOf}
-use Rattle.fit_profile.specs.inner.InBytes.{slots}
+use Rattle.fit_profile.specs.inner.InBytes.{shapes}
 use Rattle.fit_profile.specs.inner.Places.{AreFieldPlaces}
 
 -- the time that these fields hold whose bytes begin these
 abbrev pub time_of_fields : Order → List FieldDef → List ℕ → Option ℕ
 time_of_fields order fields bytes =
-    option_and_then (λ f. time_in_field f.0 f.1) (first_field {A = Global} fields (fields_from order (slots fields) bytes) 253)
+    option_and_then (λ f. time_in_field f.0 f.1) (first_field {A = Global} fields (fields_from order (shapes fields) bytes) 253)
 
 -- the time in the four bytes at a place
 abbrev pub time_at : Order → Option ℕ → List ℕ → Option ℕ
@@ -47,7 +47,7 @@ pub record IsPlan (plan : Plan) (d : MessageDef Global) : Type 0 where
   pub describes : plan.describes ≡ (d.global == 206)
   pub lone : IfSome plan.has_lone_fields (λ lone. lone ≡ has_lone_fields d)
   pub places : AreFieldPlaces plan.places d.fields
-  pub within : IfSome plan.time_place (λ p. p + 4 ≤ sizes (slots d.fields))
+  pub within : IfSome plan.time_place (λ p. p + 4 ≤ sizes (shapes d.fields))
   pub time : (bytes : List ℕ) → time_of_fields d.order d.fields bytes ≡ time_at d.order plan.time_place bytes
   pub counters : ArePlacesOf plan.counters d
   pub silent : plan.is_silent ≡ true → IsSilent d

@@ -71,8 +71,8 @@ abbrev pub frame_keys : MessageKey → List FrameKey
 frame_keys k = map (field_key k.own.global) k.own.fields ++ map dev_frame_key k.devs
 
 -- their base type codes and sizes
-abbrev pub frame_slots : MessageKey → List (ℕ × ℕ)
-frame_slots k = map (λ f. (f.code, f.size)) (frame_keys k)
+abbrev pub frame_shapes : MessageKey → List (ℕ × ℕ)
+frame_shapes k = map (λ f. (f.code, f.size)) (frame_keys k)
 
 -- rows by the items of their values
 abbrev pub value_rows : {A : Type 0} → List FrameKey → List (Items A) → List Row

@@ -98,8 +98,8 @@ abbrev pub line_keys : MessageKey → List ShownKey
 line_keys k = shown_keys 0 (own_parts k.own) (own_end k) ++ shown_keys (length k.own.fields) (map dev_field_part k.devs) (codes "\n")
 
 -- base type codes and sizes of fields and developer fields
-abbrev pub line_slots : MessageKey → List (ℕ × ℕ)
-line_slots k = map (λ f. (f.code, f.size)) k.own.fields ++ map (λ d. (d.code, d.size)) k.devs
+abbrev pub line_shapes : MessageKey → List (ℕ × ℕ)
+line_shapes k = map (λ f. (f.code, f.size)) k.own.fields ++ map (λ d. (d.code, d.size)) k.devs
 
 -- the line of a message by its time and the items of its fields and developer fields
 abbrev pub line_text : {A : Type 0} → MessageKey → Option ℕ → List (Items A) → List ℕ

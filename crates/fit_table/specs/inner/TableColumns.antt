@@ -43,8 +43,8 @@ abbrev pub shown_number : ℕ → ℕ
 shown_number field = slice_index_or TABLED field 0
 
 -- base type code and size of each field
-abbrev pub slots : List FieldDef → List (ℕ × ℕ)
-slots fields = map (λ f. (f.code, f.size)) fields
+abbrev pub shapes : List FieldDef → List (ℕ × ℕ)
+shapes fields = map (λ f. (f.code, f.size)) fields
 
 -- a field with an item of its base type
 pub record HasItem (f : FieldDef) : Type 0 where
@@ -87,15 +87,15 @@ PutsValue p o bytes put old new = let f = p.spot.field in
 
 -- the spot of the first field of a number
 pub record IsFirst (fields : List FieldDef) (number : ℕ) (s : Spot) : Type 0 where
-  pub finds : (o : Order) (bytes : List ℕ) → first_field {A = Global} fields (fields_from o (slots fields) bytes) number
+  pub finds : (o : Order) (bytes : List ℕ) → first_field {A = Global} fields (fields_from o (shapes fields) bytes) number
       ≡ Some (s.field, items_at s o bytes)
   pub numbered : s.field.number ≡ number
-  pub within : s.offset + s.field.size ≤ sizes (slots fields)
+  pub within : s.offset + s.field.size ≤ sizes (shapes fields)
   pub item : HasItem s.field
 
 -- No field has the number.
 abbrev pub HaveNone : List FieldDef → ℕ → Type 0
-HaveNone fields number = (o : Order) (bytes : List ℕ) → first_field {A = Global} fields (fields_from o (slots fields) bytes) number ≡ None
+HaveNone fields number = (o : Order) (bytes : List ℕ) → first_field {A = Global} fields (fields_from o (shapes fields) bytes) number ≡ None
 
 -- the number that a field holds, where there is one
 abbrev pub held_number : Option (FieldDef × Items Global) → Option ℤ
@@ -103,7 +103,7 @@ held_number first = option_and_then (λ f. first_number f.0 f.1) first
 
 -- the spot of the first field of a number, or none where that holds no number
 abbrev pub IsSpot : List FieldDef → ℕ → Option Spot → Type 0
-IsSpot fields number None = (o : Order) (bytes : List ℕ) → held_number (first_field fields (fields_from o (slots fields) bytes) number) ≡ None
+IsSpot fields number None = (o : Order) (bytes : List ℕ) → held_number (first_field fields (fields_from o (shapes fields) bytes) number) ≡ None
 IsSpot fields number (Some s) = IsFirst fields number s
 
 -- the column of the first field of a number
@@ -120,7 +120,7 @@ degrees_of_first first =
 
 -- the spot of the first field of a number, where that may be a position
 abbrev pub IsPosition : List FieldDef → ℕ → Option Spot → Type 0
-IsPosition fields number None = (o : Order) (bytes : List ℕ) → degrees_of_first (first_field fields (fields_from o (slots fields) bytes) number) ≡ None
+IsPosition fields number None = (o : Order) (bytes : List ℕ) → degrees_of_first (first_field fields (fields_from o (shapes fields) bytes) number) ≡ None
 IsPosition fields number (Some s) = IsFirst fields number s × (s.field.code ≡ 0x85)
 
 -- the columns of the fields that the table shows, but for the position
@@ -151,8 +151,8 @@ TellsAmounts (Some a) t = AreAmounts a t
 pub record AreInBytes (p : Places) (o : Order) (bytes : List ℕ) (a : Option Amounts) (d : MessageDef Global) (v : Values Global) (t : Told) : Type 0 where
   pub places : ArePlaces d.fields p
   pub global : d.global ≡ 20
-  pub fields : v.fields ≡ fields_from o (slots d.fields) bytes
-  pub within : sizes (slots d.fields) ≤ length bytes
+  pub fields : v.fields ≡ fields_from o (shapes d.fields) bytes
+  pub within : sizes (shapes d.fields) ≤ length bytes
   pub tells : TellsAmounts a t
 
 -- the same of what cells are written from

@@ -13,21 +13,21 @@ use Rattle.fit_messages.proofs.items.add_all_read.Goals as goal
 
 pub split_at-requires : goal.split_at-requires
 split_at-requires c =
-    omega (arith, sizes_more c.args.layout.now c.loop-place.place c.slot-code.result c.slot-code.ensures, c.loop-place.invariant.enough)
+    omega (arith, sizes_more c.args.layout.now c.loop-place.place c.shape-code.result c.shape-code.ensures, c.loop-place.invariant.enough)
 
 pub loop-place-preserved : goal.loop-place-preserved
 loop-place-preserved c =
     let k = c.loop-place.place in
     let o = c.args.order in
     let rest = c.loop-place.rest.now in
-    let f = c.slot-code.result in
+    let f = c.shape-code.result in
     let next = drop (k + 1) c.args.layout.now in
     let old = with_sheet c.loop-place.bytes.items c.loop-place.sheet c.loop-place.at in
     let now = with_sheet c.add_read.new.bytes.items c.add_read.new.sheet c.in_ok-at.at in
-    let more = sizes_more c.args.layout.now k f c.slot-code.ensures in
+    let more = sizes_more c.args.layout.now k f c.shape-code.ensures in
     record {
       told = ap (λ r. now ++ flat_map slot (fields_from {A = Global} o next r)) c.split_at.ensures.back
-          ∙ fields_more o f _ next rest old now _ (dropped c.args.layout.now k f c.slot-code.ensures)
+          ∙ fields_more o f _ next rest old now _ (dropped c.args.layout.now k f c.shape-code.ensures)
           (c.in_ok-at.ensures.text ∙ ap (λ b. old ++ slot (field_from {A = Global} o f b)) c.split_at.ensures.front) c.loop-place.invariant.told;
       enough = omega (arith, more, c.loop-place.invariant.enough, ap length c.split_at.ensures.back ∙ length-drop f.1 rest);
       small = c.in_ok-at.ensures.place;

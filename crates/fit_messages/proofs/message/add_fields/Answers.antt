@@ -14,14 +14,14 @@ write_lone-requires-clause-room c = omega (arith, c.requires.place, c.are_quick.
 
 pub write_lone-requires-clause-lone : goal.write_lone-requires-clause-lone
 write_lone-requires-clause-lone c =
-    subst AreLone (sym c.layout-layout.ensures.slots) (c.requires.quick (c.are_quick.ensures.quick c.if-are_quick.true)).0
+    subst AreLone (sym c.layout-layout.ensures.shapes) (c.requires.quick (c.are_quick.ensures.quick c.if-are_quick.true)).0
 
 pub write_lone-requires-clause-more : goal.write_lone-requires-clause-more
 write_lone-requires-clause-more c =
     let p = c.args.defined.now in
     omega (
       arith,
-      ap sizes c.layout-layout.ensures.slots,
+      ap sizes c.layout-layout.ensures.shapes,
       (c.requires.quick (c.are_quick.ensures.quick c.if-are_quick.true)).1,
       sum_by-append (λ (f : ℕ × ℕ). f.1) (layout p) (dev_layout p),
     )
@@ -33,14 +33,14 @@ returns-then-are_quick-clause-text c =
     let rest = c.args.rest.now.items in
     let sheet = c.args.sheet.now in
     more_written rest sheet c.write_lone.new.sheet _ c.args.start c.write_lone.result.0 c.write_lone.ensures.text
-    ∙ ap (λ l. with_sheet rest sheet c.args.start ++ flat_map slot (fields_from {A = Global} o l bytes)) c.layout-layout.ensures.slots
+    ∙ ap (λ l. with_sheet rest sheet c.args.start ++ flat_map slot (fields_from {A = Global} o l bytes)) c.layout-layout.ensures.shapes
 
 pub returns-then-are_quick-clause-rest : goal.returns-then-are_quick-clause-rest
 returns-then-are_quick-clause-rest c =
-    c.write_lone.ensures.rest ∙ ap (λ l. drop (sizes l) c.args.bytes.now) c.layout-layout.ensures.slots
+    c.write_lone.ensures.rest ∙ ap (λ l. drop (sizes l) c.args.bytes.now) c.layout-layout.ensures.shapes
 
 pub add_all_read-requires-clause-size : goal.add_all_read-requires-clause-size
-add_all_read-requires-clause-size c = omega (arith, ap sizes c.layout-layout.ensures.slots, c.requires.size)
+add_all_read-requires-clause-size c = omega (arith, ap sizes c.layout-layout.ensures.shapes, c.requires.size)
 
 pub returns-clause-text : goal.returns-clause-text
 returns-clause-text c =
@@ -48,8 +48,8 @@ returns-clause-text c =
     let bytes = c.args.bytes.now in
     let old = with_sheet c.args.rest.now.items c.args.sheet.now c.args.start in
     subst (λ l. IfOk c.add_all_read.result (λ r. with_sheet c.add_all_read.new.bytes.items c.add_all_read.new.sheet r.0
-    ≡ old ++ flat_map slot (fields_from {A = Global} o l bytes))) c.layout-layout.ensures.slots c.add_all_read.ensures.text
+    ≡ old ++ flat_map slot (fields_from {A = Global} o l bytes))) c.layout-layout.ensures.shapes c.add_all_read.ensures.text
 
 pub returns-clause-rest : goal.returns-clause-rest
 returns-clause-rest c =
-    subst (λ l. IfOk c.add_all_read.result (λ r. r.1.now ≡ drop (sizes l) c.args.bytes.now)) c.layout-layout.ensures.slots c.add_all_read.ensures.rest
+    subst (λ l. IfOk c.add_all_read.result (λ r. r.1.now ≡ drop (sizes l) c.args.bytes.now)) c.layout-layout.ensures.shapes c.add_all_read.ensures.rest

@@ -20,7 +20,7 @@ add_all_read-requires-clause-size c =
     let bytes = c.args.bytes.now in
     omega (
       arith,
-      ap sizes c.dev_layout-dev_layout.ensures.slots,
+      ap sizes c.dev_layout-dev_layout.ensures.shapes,
       ap length c.in_ok-at.ensures.rest ∙ length-drop (sizes (layout p)) bytes,
       c.requires.within,
       sum_by-append (λ (f : ℕ × ℕ). f.1) (layout p) (dev_layout p),
@@ -35,6 +35,6 @@ returns-clause-text c =
     let before = with_sheet c.args.rest.now.items c.args.sheet.now c.args.start in
     let middle = with_sheet c.add_fields.new.rest.items c.add_fields.new.sheet c.in_ok-at.at in
     c.in_ok-at-2.ensures.text
-    ∙ ap₂ (λ l b. middle ++ flat_map slot (fields_from {A = Global} o l b)) c.dev_layout-dev_layout.ensures.slots c.in_ok-at.ensures.rest
+    ∙ ap₂ (λ l b. middle ++ flat_map slot (fields_from {A = Global} o l b)) c.dev_layout-dev_layout.ensures.shapes c.in_ok-at.ensures.rest
     ∙ ap (λ b. b ++ flat_map slot (fields_from {A = Global} o (dev_layout p) rest)) c.in_ok-at.ensures.text
     ∙ append_assoc before (flat_map slot (fields_from {A = Global} o (layout p) bytes)) (flat_map slot (fields_from {A = Global} o (dev_layout p) rest))

@@ -2,7 +2,7 @@ use Rattle.fit_profile.proofs.Common.{◌≡◌, ◌≤◌, ◌+◌, ◌*◌, Li
 use Rattle.std.specs.Global.{Global}
 use Rattle.fit_base.specs.declared.number.Order.{Order}
 use Rattle.fit_record.specs.Records.{sizes}
-use Rattle.fit_profile.specs.inner.InBytes.{slots}
+use Rattle.fit_profile.specs.inner.InBytes.{shapes}
 use Rattle.fit_profile.proofs.InBytes.{first_in}
 use Rattle.fit_profile.proofs.counter_places.place_in.Given as goal
 
@@ -10,6 +10,6 @@ abbrev pub invariant-loop-field : goal.invariant-loop-field
 invariant-loop-field l = record {
   first : (o : Order) (bytes : List ℕ)
       → first_in {A = Global} o l.fields bytes l.c.field ≡ first_in o (drop l.field-index l.fields) (drop l.place bytes) l.c.field;
-  sum : l.place + sizes (slots (drop l.field-index l.fields)) ≡ sizes (slots l.fields);
+  sum : l.place + sizes (shapes (drop l.field-index l.fields)) ≡ sizes (shapes l.fields);
   small : l.place ≤ 255 * l.field-index;
 }

@@ -5,7 +5,7 @@ use Rattle.std.specs.Global.{Global}
 use Rattle.fit_base.specs.declared.number.Order.{Order}
 use Rattle.fit_record.specs.ReadMessages.{fields_from}
 use Rattle.fit_profile.specs.Times.{time_in_field}
-use Rattle.fit_profile.specs.inner.InBytes.{slots}
+use Rattle.fit_profile.specs.inner.InBytes.{shapes}
 use Rattle.fit_profile.proofs.FieldPlaces.{absent}
 use Rattle.fit_profile.proofs.InBytes.{first_in, items_at, left_sizes, passed, time_here}
 use Rattle.fit_profile.proofs.plan.time_place.Goals as goal
@@ -21,7 +21,7 @@ pub returns-then-places-eq0-clause-time : goal.returns-then-places-eq0-clause-ti
 returns-then-places-eq0-clause-time c order bytes =
     let fields = c.args.fields.now in
     ap (option_and_then (λ f. time_in_field f.0 f.1))
-    (absent {A = Global} fields (fields_from order (slots fields) bytes) 253 0 (sym (c.requires.places 253 (omega arith)) ∙ c.if-places-eq0.true))
+    (absent {A = Global} fields (fields_from order (shapes fields) bytes) 253 0 (sym (c.requires.places 253 (omega arith)) ∙ c.if-places-eq0.true))
 
 pub loop-field-init : goal.loop-field-init
 loop-field-init c = record { first = λ o bytes. refl; sum = omega arith; small = lit≤ tt }

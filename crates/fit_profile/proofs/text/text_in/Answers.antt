@@ -10,7 +10,7 @@ use Rattle.fit_record.specs.MessageBytes.{message_in}
 use Rattle.fit_record.specs.ReadMessages.{field_from, fields_from}
 use Rattle.fit_record.specs.declared.message_bytes.MessageBytes.{MessageBytes}
 use Rattle.fit_profile.specs.Described.{text_field}
-use Rattle.fit_profile.specs.inner.InBytes.{slots}
+use Rattle.fit_profile.specs.inner.InBytes.{shapes}
 use Rattle.fit_profile.proofs.text.text_in.Goals as goal
 
 -- the text of a field, where it is a string
@@ -19,13 +19,13 @@ shown f = if f.0.code == 0x07 then printable_text (before_closing_zeros f.1.bits
 
 -- the text of the first field of a number
 of_first : (m : MessageBytes Global) (number : ℕ) (fs : List FieldDef) (o : Option (FieldDef × Items Global))
-    → o ≡ first_field fs (fields_from {A = Global} m.defined.now.definition.order (slots fs) m.body.now) number → fs ≡ m.defined.now.definition.fields
+    → o ≡ first_field fs (fields_from {A = Global} m.defined.now.definition.order (shapes fs) m.body.now) number → fs ≡ m.defined.now.definition.fields
     → option_and_then shown o ≡ text_field m.defined.now.definition (message_in m) number
 of_first m number fs o first same =
     let d = m.defined.now.definition in
     ap (option_and_then shown)
-    (first ∙ ap (λ f. first_field f (fields_from {A = Global} d.order (slots f) m.body.now) number) same
-    ∙ ap (λ xs. first_field d.fields xs number) (fields_front {A = Global} d.order (slots d.fields) m.body.now))
+    (first ∙ ap (λ f. first_field f (fields_from {A = Global} d.order (shapes f) m.body.now) number) same
+    ∙ ap (λ xs. first_field d.fields xs number) (fields_front {A = Global} d.order (shapes d.fields) m.body.now))
 
 pub returns-in_default : goal.returns-in_default
 returns-in_default c =

@@ -2,7 +2,7 @@ use Rattle.fit_record.proofs.Common.{◌≡◌, ◌+◌, ℕ, ◌<◌, ◌≤◌
 use Rattle.fit_record.proofs.Common.{slice_get-get_or, get_or, eqb-true, take, drop_all, AllByRecursion, FieldDef, Values, lit<, subst}
 use Rattle.std.specs.Prelude.{slice_index_or}
 use Rattle.fit_record.specs.Environment.{only_byte}
-use Rattle.fit_record.proofs.BytesOfNumbers.{slots, sizes_at, none_left}
+use Rattle.fit_record.proofs.BytesOfNumbers.{shapes, sizes_at, none_left}
 use Rattle.fit_record.proofs.OneWalk.{IsFound, byte_of, without, description_is, finished, taken, ended, less, all_found, so_far-some}
 use Rattle.fit_record.proofs.SilentFields.{none_later, passed_together, same_sizes}
 use Rattle.fit_record.specs.inner.Describing.{IsPassedBy}
@@ -26,7 +26,7 @@ pub returns-then-is_empty : goal.returns-then-is_empty
 returns-then-is_empty g c =
     let A = g.row.A.Denot in
     let d = c.args.d.now in
-    let v : Values A = record { local = 0; offset = None; fields = fields_from d.order (slots d.fields) c.args.bytes.now; dev = [] } in
+    let v : Values A = record { local = 0; offset = None; fields = fields_from d.order (shapes d.fields) c.args.bytes.now; dev = [] } in
     let empty = eqb-true (length c.args.bytes.now) 0 (sym c.is_empty.ensures ∙ c.if-is_empty.true) in
     sym (without (λ n. only_byte d.fields v.fields n) 0 (lit< tt) (none_left A d.order d.fields c.args.bytes.now 0 empty c.requires.size))
     ∙ description_is d v c.requires.global
@@ -35,7 +35,7 @@ pub returns-then-not-take_field : goal.returns-then-not-take_field
 returns-then-not-take_field g c =
     let A = g.row.A.Denot in
     let d = c.args.d.now in
-    let v : Values A = record { local = 0; offset = None; fields = fields_from d.order (slots d.fields) c.args.bytes.now; dev = [] } in
+    let v : Values A = record { local = 0; offset = None; fields = fields_from d.order (shapes d.fields) c.args.bytes.now; dev = [] } in
     let k = c.loop-place.place in
     let rest = c.loop-place.rest.now in
     let f = get_or c.as_slice-fields.result.now k none_there in
@@ -50,7 +50,7 @@ pub returns-then-is_empty-2 : goal.returns-then-is_empty-2
 returns-then-is_empty-2 g c =
     let A = g.row.A.Denot in
     let d = c.args.d.now in
-    let v : Values A = record { local = 0; offset = None; fields = fields_from d.order (slots d.fields) c.args.bytes.now; dev = [] } in
+    let v : Values A = record { local = 0; offset = None; fields = fields_from d.order (shapes d.fields) c.args.bytes.now; dev = [] } in
     let k = c.loop-place.place in
     let rest = c.loop-place.rest.now in
     let after = c.split_at.result.1.now in
@@ -109,7 +109,7 @@ pub returns : goal.returns
 returns g c =
     let A = g.row.A.Denot in
     let d = c.args.d.now in
-    let v : Values A = record { local = 0; offset = None; fields = fields_from d.order (slots d.fields) c.args.bytes.now; dev = [] } in
+    let v : Values A = record { local = 0; offset = None; fields = fields_from d.order (shapes d.fields) c.args.bytes.now; dev = [] } in
     let found = c.loop-place.found in
     let k = c.loop-place.place in
     let none : drop k d.fields ≡ [] = ap (drop k) (sym c.as_slice-fields.ensures) ∙ drop_all k _ c.loop-place-test.false in

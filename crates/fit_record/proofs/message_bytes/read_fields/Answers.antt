@@ -6,21 +6,21 @@ use Rattle.fit_record.proofs.message_bytes.read_fields.Goals as goal
 
 pub split_at-requires : goal.split_at-requires
 split_at-requires g c =
-    omega (arith, sizes_more c.args.layout.now c.loop-place.place c.slot-code.result c.slot-code.ensures, c.loop-place.invariant.enough)
+    omega (arith, sizes_more c.args.layout.now c.loop-place.place c.shape-code.result c.shape-code.ensures, c.loop-place.invariant.enough)
 
 pub loop-place-preserved : goal.loop-place-preserved
 loop-place-preserved g c =
     let k = c.loop-place.place in
     let o = c.args.order in
     let rest = c.loop-place.rest.now in
-    let f = c.slot-code.result in
+    let f = c.shape-code.result in
     let next = drop (k + 1) c.args.layout.now in
-    let more = sizes_more c.args.layout.now k f c.slot-code.ensures in
+    let more = sizes_more c.args.layout.now k f c.shape-code.ensures in
     record {
       told = ap (λ b. b ++ fields_from o next c.split_at.result.1.now)
           (c.in_ok-push_field.ensures ∙ ap (λ l. c.loop-place.items ++ field_from o f l ∷ []) c.split_at.ensures.front)
           ∙ ap (λ r. (c.loop-place.items ++ field_from o f (take f.1 rest) ∷ []) ++ fields_from o next r) c.split_at.ensures.back
-          ∙ layout_more o f _ next rest c.loop-place.items _ (dropped c.args.layout.now k f c.slot-code.ensures) c.loop-place.invariant.told;
+          ∙ layout_more o f _ next rest c.loop-place.items _ (dropped c.args.layout.now k f c.shape-code.ensures) c.loop-place.invariant.told;
       enough = omega (arith, more, c.loop-place.invariant.enough, ap length c.split_at.ensures.back ∙ length-drop f.1 rest);
       after = ap (drop (sizes next)) c.split_at.ensures.back ∙ drop-drop (sizes next) f.1 rest ∙ ap (λ n. drop n rest) (sym more)
           ∙ c.loop-place.invariant.after;

@@ -3,7 +3,7 @@ use Rattle.fit_show.proofs.Common.{message_key}
 use Rattle.std.proofs.lemmas.Option.{same_Some}
 use Rattle.fit_record.specs.MessageBytes.{message_in}
 use Rattle.fit_record.specs.Records.{sizes}
-use Rattle.fit_shown.proofs.FieldWalks.{field_slot}
+use Rattle.fit_shown.proofs.FieldWalks.{field_shape}
 use Rattle.fit_shown.specs.declared.items.ItemBytes.{ItemBytes}
 use Rattle.fit_texts.proofs.ItemFacts.{fields_both, fields_long}
 use Rattle.fit_show.proofs.ShownLines.{line_items, line_put}
@@ -33,5 +33,5 @@ returns-clause-line c = on_ok_weaker c.put.result (λ takes.
     same_Some c.in-Some.template.now key (c.in-Some.ensures ∙ ap (option_and_then (λ t. t)) c.in_ok-find.ensures.found) in
     line_put HasItems items c.in-Some.template.now c.args.stream.now p m.local same c.requires.opened.defined
     c.put.new.items c.args.time c.args.text.now.items c.put.new.text.items takes (message_in m) refl
-    (fields_long Global order (layout p) (take (sizes (layout p)) m.body.now) ∙ length-map p.definition.fields field_slot) c.requires.time
+    (fields_long Global order (layout p) (take (sizes (layout p)) m.body.now) ∙ length-map p.definition.fields field_shape) c.requires.time
     (c.requires.opened.size, sym (fields_both order (layout p) (dev_layout p) m.body.now))) c.put.ensures

@@ -7,12 +7,12 @@ returns-in-Some g c = λ room v.
     let d = c.args.defined.now in
     field_found room v c.args.from (drop c.args.from (layout d)) (dev_layout d)
     ∙ ap (field_begun room v (dev_layout d))
-    (sym (sym c.in-Some.is ∙ c.field_from.ensures ∙ ap (λ l. next_with_bytes c.args.from (drop c.args.from l)) c.layout.ensures.slots))
+    (sym (sym c.in-Some.is ∙ c.field_from.ensures ∙ ap (λ l. next_with_bytes c.args.from (drop c.args.from l)) c.layout.ensures.shapes))
 
 pub returns-in-None : goal.returns-in-None
 returns-in-None g c = λ room v.
     let d = c.args.defined.now in
     field_found room v c.args.from (drop c.args.from (layout d)) (dev_layout d)
     ∙ ap (field_begun room v (dev_layout d))
-    (sym (sym c.in-None.is ∙ c.field_from.ensures ∙ ap (λ l. next_with_bytes c.args.from (drop c.args.from l)) c.layout.ensures.slots))
+    (sym (sym c.in-None.is ∙ c.field_from.ensures ∙ ap (λ l. next_with_bytes c.args.from (drop c.args.from l)) c.layout.ensures.shapes))
     ∙ c.begin_dev.ensures room v

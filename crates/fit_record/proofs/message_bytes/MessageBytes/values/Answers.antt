@@ -7,8 +7,8 @@ pub read_fields-requires-2 : goal.read_fields-requires-2
 read_fields-requires-2 g c =
     let p = c.args.self.now.defined.now in
     let bytes = c.args.self.now.body.now in
-    let after = c.in_ok-fields.ensures.1 ∙ ap (λ l. drop (sizes l) bytes) c.layout.ensures.slots in
-    omega (arith, left_for_dev p bytes c.in_ok-fields.back.now c.requires.size after, ap sizes c.dev_layout.ensures.slots)
+    let after = c.in_ok-fields.ensures.1 ∙ ap (λ l. drop (sizes l) bytes) c.layout.ensures.shapes in
+    omega (arith, left_for_dev p bytes c.in_ok-fields.back.now c.requires.size after, ap sizes c.dev_layout.ensures.shapes)
 
 pub returns : goal.returns
 returns g c =
@@ -16,8 +16,8 @@ returns g c =
     let p = m.defined.now in
     let o = p.definition.order in
     let bytes = m.body.now in
-    let after = c.in_ok-fields.ensures.1 ∙ ap (λ l. drop (sizes l) bytes) c.layout.ensures.slots in
-    let fields = c.in_ok-fields.ensures.0 ∙ ap (λ l. fields_from o l bytes) c.layout.ensures.slots ∙ fields_front o (layout p) bytes in
+    let after = c.in_ok-fields.ensures.1 ∙ ap (λ l. drop (sizes l) bytes) c.layout.ensures.shapes in
+    let fields = c.in_ok-fields.ensures.0 ∙ ap (λ l. fields_from o l bytes) c.layout.ensures.shapes ∙ fields_front o (layout p) bytes in
     let dev = c.in_ok-dev.ensures.0 ∙ ap (fields_from o c.dev_layout.result) after
-    ∙ ap (λ l. fields_from o l (drop (sizes (layout p)) bytes)) c.dev_layout.ensures.slots in
+    ∙ ap (λ l. fields_from o l (drop (sizes (layout p)) bytes)) c.dev_layout.ensures.shapes in
     λ i. record { local = m.local; offset = m.offset; fields = fields i; dev = dev i }

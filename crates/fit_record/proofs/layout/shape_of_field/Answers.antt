@@ -1,6 +1,6 @@
 use Rattle.fit_record.proofs.Common.{ap, ◌∙◌, option_map, slice_get-get_or}
 use Rattle.std.proofs.lemmas.Option.{slice_get-map}
-use Rattle.fit_record.proofs.layout.slot_of_field.Goals as goal
+use Rattle.fit_record.proofs.layout.shape_of_field.Goals as goal
 
 pub returns : goal.returns
 returns c =
