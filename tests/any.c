@@ -1,6 +1,6 @@
 /* Says what the library answers: any [-d COUNT] FILE.. makes each call on each file, on its text and its blocks, on COUNT damaged copies of each,
  * and on pieces of each, and writes each answer and all bytes that were made to standard output. So two libraries are compared by `cmp`. Of a
- * long file it makes only the text, and the file again.
+ * long file it makes only the text, and the file again; of one like the ride four threads make each call at once, too.
  *
  * With REFUSES it also makes each call on each file with memory refused from each place on, and says where the answer is wrong. The library's
  * malloc and realloc have to come through here for that: -Wl,--wrap=malloc,--wrap=realloc. */
@@ -14,7 +14,7 @@
 #include <io.h>
 #endif
 
-enum { REFUSED_AT_MOST = 4000, LONG = 50000 };
+enum { FEW = 1000, REFUSED_AT_MOST = 4000, MANY = 50000 };
 
 /* ---- numbers that are the same on every machine */
 
@@ -98,6 +98,8 @@ static gazhdor_answer written(const uint8_t *bytes, size_t length, gazhdor_text 
     return answer;
 }
 
+#include "any_threads.h"
+
 static void say_pieces(const uint8_t *bytes, size_t length, uint32_t kind)
 {
     gazhdor_stream stream = GAZHDOR_CLOSED_STREAM;
@@ -172,6 +174,8 @@ static int refused;
 
 static int is_refused(void)
 {
+    if (granted < 0)
+        return 0;
     refused |= granted == 0;
     if (granted > 0)
         granted--;
@@ -278,13 +282,15 @@ int main(int argc, char **argv)
         size_t length;
         uint8_t *bytes = bytes_of(argv[k], &length);
         printf("file %d\n", k);
-        if (length < LONG)
+        if (length < MANY)
             say_all(bytes, length);
         else
             say_long(bytes, length);
         if (length < REFUSED_AT_MOST)
             refuse_all(bytes, length);
-        for (int round = 0; round < damage && length < LONG; round++)
+        if (length < REFUSED_AT_MOST && length > FEW)
+            say_threads(bytes, length);
+        for (int round = 0; round < damage && length < MANY; round++)
             say_damaged(bytes, length);
         free(bytes);
     }
