@@ -128,6 +128,29 @@ class Wheel(unittest.TestCase):
         done = imported(there, "import sys\nsys.platform = 'win32'\nimport gazhdor")
         self.assertIn(f"LibraryUnusable: {there}/gazhdor/gazhdor.dll is in a zip file", done.stderr.decode())
 
+    def test_platforms(self):
+        """pip takes the wheel of each system for a machine of that."""
+        has(run("-m", "pip", "--version").returncode == 0, "pip")
+        systems = (("win_amd64", "gazhdor.dll", "win_amd64"),
+            ("macosx_11_0_x86_64", "libgazhdor.dylib", "macosx_13_0_x86_64"),
+            ("macosx_11_0_arm64", "libgazhdor.dylib", "macosx_14_0_arm64"),
+            ("musllinux_1_1_x86_64", "libgazhdor.so", "musllinux_1_1_x86_64"),
+            ("musllinux_1_1_aarch64", "libgazhdor.so", "musllinux_1_1_aarch64"))
+        words = ["-m", "pip", "install", "--quiet", "--no-index", "--no-compile", "--disable-pip-version-check",
+            "--only-binary", ":all:"]
+        for tag, name, machine in systems:
+            with self.subTest(tag):
+                to = os.path.join(WORK, tag)
+                os.makedirs(to)
+                library = shutil.copy(in_tree(LIBRARY), os.path.join(to, name))
+                settings = {"library": library, "platform": tag}
+                build = f"import backend; print(backend.build_wheel({to!r}, {settings!r}))"
+                wheel = os.path.join(to, run("-c", build, cwd=PYTHON).stdout.decode().strip())
+                self.assertEqual(os.path.basename(wheel), f"gazhdor-{VERSION}-py3-none-{tag}.whl")
+                done = run(*words, "--platform", machine, "--target", os.path.join(to, "there"), wheel)
+                self.assertEqual((done.returncode, done.stdout), (0, b""), done.stderr)
+                self.assertEqual(bytes_at(os.path.join(to, "there", "gazhdor", name)), bytes_at(library))
+
     def test_pip(self):
         """Installed of the tree, and of the wheel: the same files, which need nothing of the tree."""
         has(run("-m", "pip", "--version").returncode == 0, "pip")
