@@ -135,6 +135,9 @@ def main(database, processes, paths):
     with tempfile.TemporaryDirectory(dir=os.path.dirname(os.path.abspath(database))) as folder:
         with multiprocessing.Pool(processes, begin, (folder,)) as pool:
             done = list(pool.imap_unordered(load, enumerate(paths), chunksize=4))
+            # A process that had nothing to do makes its tables first.
+            pool.close()
+            pool.join()
         join(database, folder)
     total, count, good = map(sum, zip(*done))
     took = time.perf_counter() - started

@@ -381,6 +381,30 @@ class Examples(unittest.TestCase):
         done = run(example("load_rides.py"), database, "2", cut)
         self.assertEqual((done.returncode, done.stderr), (1, f"load_rides.py: {database} is there already\n".encode()))
 
+    def test_process_without_a_ride(self):
+        """The process that begins last has its tables only when the other one has loaded all."""
+        database, mark = os.path.join(WORK, "late.db"), os.path.join(WORK, "first")
+        program = f"""import multiprocessing, os, sys, time
+multiprocessing.set_start_method("fork")
+sys.path.insert(0, {os.path.dirname(example("load_rides.py"))!r})
+import load_rides
+begin = load_rides.begin
+def late(folder):
+    try:
+        os.mkdir({mark!r})
+    except FileExistsError:
+        open(os.path.join(folder, str(os.getpid()) + ".db"), "xb").close()
+        time.sleep(1)
+    begin(folder)
+load_rides.begin = late
+load_rides.main({database!r}, 2, [{RIDE!r}])
+"""
+        done = run("-c", program)
+        self.assertEqual((done.returncode, done.stderr), (0, b""))
+        with sqlite3.connect(database) as into:
+            self.assertEqual(into.execute("select count(*) from record").fetchone(), (144,))
+        into.close()
+
     def test_pandas(self):
         if not importlib.util.find_spec("pandas"):
             left_out("there is no pandas, so its example isn't tried")
