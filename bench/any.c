@@ -10,6 +10,39 @@
 
 typedef gazhdor_answer call(const uint8_t *bytes, size_t length, gazhdor_text *text);
 
+/* Puts blocks by a writer, a message at a time, as most programs do. */
+static gazhdor_answer put(const uint8_t *bytes, size_t length, gazhdor_text *text)
+{
+    gazhdor_writer writer = GAZHDOR_CLOSED_WRITER;
+    gazhdor_text blocks = { bytes, length };
+    gazhdor_answer answer = gazhdor_writer_open(&writer);
+    for (gazhdor_reader at = gazhdor_read(blocks); answer.status == GAZHDOR_GOOD && gazhdor_next(&at);) {
+        if (at.block.kind == GAZHDOR_FILE_HEADER)
+            answer = gazhdor_writer_file(&writer, at.block.bytes, at.block.length);
+        else if (at.block.kind == GAZHDOR_MESSAGE)
+            answer = gazhdor_writer_messages(&writer, at.definition.bytes, at.definition.length, at.block.bytes, at.block.length);
+    }
+    if (answer.status == GAZHDOR_GOOD)
+        answer = gazhdor_writer_finish(&writer, text);
+    gazhdor_writer_close(&writer);
+    return answer;
+}
+
+/* A stream of rows, in pieces of 4 KB. */
+static gazhdor_answer streamed(const uint8_t *bytes, size_t length, gazhdor_text *text)
+{
+    gazhdor_stream stream = GAZHDOR_CLOSED_STREAM;
+    gazhdor_answer answer = gazhdor_open(&stream, GAZHDOR_STREAM_TO_CSV);
+    for (size_t at = 0; at < length && answer.status == GAZHDOR_GOOD; at += 4096) {
+        gazhdor_text rows = GAZHDOR_NO_TEXT;
+        answer = gazhdor_feed(&stream, bytes + at, length - at < 4096 ? length - at : 4096, &rows);
+        gazhdor_free(rows);
+    }
+    answer = gazhdor_finish(&stream, text);
+    gazhdor_close(&stream);
+    return answer;
+}
+
 static const struct {
     const char *name;
     call *of, *input; /* what makes the input of FILE, where that isn't FILE itself */
@@ -20,6 +53,8 @@ static const struct {
     { "messages", gazhdor_messages, NULL },
     { "from_csv", gazhdor_from_csv, gazhdor_to_csv },
     { "from_messages", gazhdor_from_messages, gazhdor_messages },
+    { "writer", put, gazhdor_messages },
+    { "stream", streamed, NULL },
 };
 
 static double microseconds(void)

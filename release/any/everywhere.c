@@ -165,11 +165,14 @@ MAKE(from_messages)
 
 /* ---- Streams and writers */
 
-/* What a gazhdor_stream and a gazhdor_writer point to: a memory with the answers of its calls and with the module's own stream or writer. Once
- * a piece or a text of a stream had no memory, each later call says so too: bytes were lost. */
+enum { KEPT = 65536 };
+
+/* What a gazhdor_stream and a gazhdor_writer point to: a memory with the answers of its calls and with the module's own stream or writer, and
+ * `held` bytes at `room` for what is given to a call; room is 0 where there are none. Once a piece or a text of a stream had no memory, each
+ * later call says so too: bytes were lost. */
 typedef struct opened {
     memory m;
-    u64 place, inner;
+    u64 place, inner, room, held;
     int lost;
 } opened;
 
@@ -190,12 +193,43 @@ static opened *opened_new(void)
         return NULL;
     }
     at->lost = 0;
+    at->room = at->held = 0;
     at->place = module_alloc(&at->m, PLACE);
     at->inner = put(&at->m, closed, sizeof closed);
     if (at->place != 0 && at->inner != 0)
         return at;
     opened_free(at);
     return NULL;
+}
+
+static void leave_room(opened *at)
+{
+    if (at->room != 0)
+        module_free(&at->m, at->room);
+    at->room = at->held = 0;
+}
+
+/* Lays what is given to a call, and behind it what else is, where that of the call before lay; 0 where memory is refused. */
+static u64 laid(opened *at, const uint8_t *bytes, size_t length, const uint8_t *others, size_t count)
+{
+    u64 both = (u64)length + count;
+    if (at->room == 0 || at->held < both) {
+        leave_room(at);
+        at->room = module_alloc(&at->m, both != 0 ? both : 1);
+        at->held = at->room != 0 ? both : 0;
+    }
+    if (at->room != 0 && length != 0)
+        memcpy(at->m.base + (size_t)at->room, bytes, length);
+    if (at->room != 0 && count != 0)
+        memcpy(at->m.base + (size_t)at->room + length, others, count);
+    return at->room;
+}
+
+/* After a call: room for the next one stays, if it isn't much. */
+static void used(opened *at)
+{
+    if (at->held > KEPT)
+        leave_room(at);
 }
 
 void gazhdor_close(gazhdor_stream *stream)
@@ -231,14 +265,14 @@ gazhdor_answer gazhdor_feed(gazhdor_stream *stream, const uint8_t *bytes, size_t
     opened *at = stream->at;
     if (at == NULL)
         return only(GAZHDOR_CLOSED);
-    u64 piece = at->lost ? 0 : put(&at->m, bytes, length);
+    u64 piece = at->lost ? 0 : laid(at, bytes, length, NULL, 0);
     at->lost = piece == 0;
     if (at->lost)
         return only(GAZHDOR_NO_MEMORY);
     no_text(&at->m, at->place);
     module_feed(&at->m, at->place, at->inner, piece, length, at->place + TEXT);
     gazhdor_answer answer = told(at, text);
-    module_free(&at->m, piece);
+    used(at);
     return answer;
 }
 
@@ -281,11 +315,11 @@ static gazhdor_answer put_block(module_put *call, gazhdor_writer *writer, const 
     opened *at = writer->at;
     if (at == NULL)
         return only(GAZHDOR_CLOSED);
-    u64 copy = put(&at->m, block, length);
+    u64 copy = laid(at, block, length, NULL, 0);
     if (copy == 0)
         return only(GAZHDOR_NO_MEMORY);
     call(&at->m, at->place, at->inner, copy, length);
-    module_free(&at->m, copy);
+    used(at);
     return answer_at(&at->m, at->place);
 }
 
@@ -305,17 +339,12 @@ gazhdor_answer gazhdor_writer_messages(gazhdor_writer *writer, const uint8_t *de
     opened *at = writer->at;
     if (at == NULL)
         return only(GAZHDOR_CLOSED);
-    gazhdor_answer answer = only(GAZHDOR_NO_MEMORY);
-    u64 copy = put(&at->m, definition, definition_length);
-    u64 run = copy != 0 ? put(&at->m, blocks, length) : 0;
-    if (run != 0) {
-        module_writer_messages(&at->m, at->place, at->inner, copy, definition_length, run, length);
-        answer = answer_at(&at->m, at->place);
-        module_free(&at->m, run);
-    }
-    if (copy != 0)
-        module_free(&at->m, copy);
-    return answer;
+    u64 copy = laid(at, definition, definition_length, blocks, length);
+    if (copy == 0)
+        return only(GAZHDOR_NO_MEMORY);
+    module_writer_messages(&at->m, at->place, at->inner, copy, definition_length, copy + definition_length, length);
+    used(at);
+    return answer_at(&at->m, at->place);
 }
 
 gazhdor_answer gazhdor_writer_finish(gazhdor_writer *writer, gazhdor_text *bytes)

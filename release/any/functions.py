@@ -6,6 +6,7 @@ their bits, and nothing calculates with them."""
 import re
 
 from instructions import CALCULATED, CALCULATED_FROM, COMPARED, COMPARED_FROM, COUNTS, EXTENDED, KINDS, LOADS, NO_KIND, STORES
+from loops import joined
 from values import Block, Value
 from wasm import Reader
 
@@ -33,7 +34,7 @@ class Function:
                 lines.append(line)
             elif line.label is not None:
                 lines.append(f"{line.label}:;")
-        body = "\n".join(lines)
+        body = joined("\n".join(lines))
         return f"{self.head()}\n{{\n{self._declared(body)}{body}\n}}\n"
 
     def head(self):

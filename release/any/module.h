@@ -90,6 +90,19 @@ static inline void put64(unsigned char *p, u64 v) { put32(p, (u32)v); put32(p + 
 #define COPY(to, from, bytes) memmove(AT(to, bytes), AT(from, bytes), (size_t)(bytes))
 #define FILL(to, value, bytes) memset(AT(to, bytes), (int)(value), (size_t)(bytes))
 
+/* Whether any of so many bytes, of which there are a multiple of eight, differ. */
+static inline u32 module_differ(const unsigned char *p, const unsigned char *q, size_t bytes)
+{
+    u64 differ = 0, one, other;
+    for (size_t k = 0; k < bytes; k += 8) {
+        memcpy(&one, p + k, 8);
+        memcpy(&other, q + k, 8);
+        differ |= one ^ other;
+    }
+    return differ != 0;
+}
+#define DIFFER(place, other, bytes) module_differ(AT(place, bytes), AT(other, bytes), bytes)
+
 /* ---- Bits of numbers */
 
 static inline u32 ROTL32(u32 v, u32 by) { return v << (by & 31) | v >> (-by & 31); }
