@@ -309,6 +309,7 @@ class Hostile(unittest.TestCase):
         self.assertLess(most[2] - most[0], 6 * max(most[1] - most[0], 3000))
 
     def test_out_of_memory(self):
+        """Below what it has already a process gets no more; what a library holds may be enough without more."""
         program = (
             "import gazhdor, io, resource, sys\n"
             "sink = io.BytesIO()\n"
@@ -323,7 +324,7 @@ class Hostile(unittest.TestCase):
             "    print('refused', len(sink.getvalue()))\n"
         )
         said = [subprocess.run([sys.executable, "-c", program, str(most)], stdout=subprocess.PIPE).stdout
-            for most in range(0, 40 * 2**20, 2**21)]
+            for most in range(-(2**22), 40 * 2**20, 2**21)]
         self.assertEqual(set(said), {b"refused 0\n", b"ok\n"})
 
     def test_sent(self):
