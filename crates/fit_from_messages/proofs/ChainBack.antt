@@ -77,10 +77,10 @@ file_says files f heard events said well small few rest =
 
 -- ---- a chain
 
-abbrev SmallFile : FitFile Global → Type 0
+abbrev pub SmallFile : FitFile Global → Type 0
 SmallFile f = AllByRecursion IsSmall f.records
 
-files_small : (files : List (FitFile Global)) → IsBytes (chain_bytes files) → AllByRecursion SmallFile files
+pub files_small : (files : List (FitFile Global)) → IsBytes (chain_bytes files) → AllByRecursion SmallFile files
 files_small [] are = tt
 files_small (f ∷ files) are = (
   records_small empty_environment f.records (IsBytes-back (header_bytes f.header (length (body f))) (body f)

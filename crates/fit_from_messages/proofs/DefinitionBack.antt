@@ -24,7 +24,7 @@ use Rattle.fit_from_messages.proofs.ColumnsBack.{IsWritten, are_devs, are_fields
 use Rattle.fit_from_messages.proofs.ColumnsBack.{layout_both, length-both, own_columns, short_both, short_devs, short_fields, small_both}
 use Rattle.fit_from_messages.proofs.ProfileNames.{message_named}
 use Rattle.fit_from_messages.proofs.ReadBack.{entries_back, entries_cut, entries_fill, entries_short, entry_list, entry_list-append, length-entry_list}
-use Rattle.fit_from_messages.proofs.ReadBack.{length-text, sized_block, slots_back, slots_from, text_back, widths, widths_few}
+use Rattle.fit_from_messages.proofs.ReadBack.{length-text, sized_block, slots_back, slots_from, text_back, three, widths, widths_few}
 use Rattle.fit_from_messages.specs.Parts as parts
 use Rattle.fit_from_messages.specs.Parts.{byte_at, counts_stand, definition_in, dev_field_count, dev_entries, dev_in, entries_begin, entries_of, entries_stand}
 use Rattle.fit_from_messages.specs.Parts.{entry_stands, field_count, field_entries, field_in, says_dev, order_read, size_fits, sizes_fit, slot_in, slots_in}
@@ -36,9 +36,6 @@ abbrev name_of : MessageDef Global → List ℕ
 name_of d = unwrap_or (message_name d.global) []
 
 -- ---- tests that pass
-
-three : (a b c : Bool) → a ≡ true → b ≡ true → c ≡ true → (a && b && c) ≡ true
-three a b c p q r = rw (p, q, r) refl
 
 five : (a b c d e : Bool) → a ≡ true → b ≡ true → c ≡ true → d ≡ true → e ≡ true → (a && b && c && d && e) ≡ true
 five a b c d e p q r s t = rw (p, q, r, s, t) refl
@@ -130,7 +127,7 @@ module _ (file place number : ℕ) (e : Environment Global) (d : MessageDef Glob
   field_entries_are =
       ap₂ take fields_counted entries_parted ∙ take_at (entry_list start own) (entry_list (start + widths own) dev) (length d.fields) length-own
 
-  dev_entries_are : dev_entries block ≡ entry_list (start + widths own) dev
+  pub dev_entries_are : dev_entries block ≡ entry_list (start + widths own) dev
   dev_entries_are =
       ap₂ drop fields_counted entries_parted ∙ drop_at (entry_list start own) (entry_list (start + widths own) dev) (length d.fields) length-own
 

@@ -112,7 +112,7 @@ pub stands_first : (s t u : Said) (block : List ℕ) (blocks : List (List ℕ)) 
 stands_first s t u block blocks first others = (first.is, first.good, subst (λ x. Say x blocks u) (sym first.says) others)
 
 -- a definition takes the namings of its developer fields, which are short
-written : (before : List (Record Global)) (d : MessageDef Global) → AreSmall (Define d ∷ before) → IsWritten d (namings_at (Define d ∷ before) d.local)
+pub written : (before : List (Record Global)) (d : MessageDef Global) → AreSmall (Define d ∷ before) → IsWritten d (namings_at (Define d ∷ before) d.local)
 written before d are =
     let name : DevDef → Naming = λ f. naming_of before f.index f.number in
     let own = map name (dev_defs d.dev) in

@@ -114,7 +114,7 @@ both_shapes [] gs (i ∷ is) js first second = absurd first
 both_shapes (f ∷ fs) gs [] js first second = absurd first
 both_shapes (f ∷ fs) gs (i ∷ is) js first second = (first.0, both_shapes fs gs is js first.1 second)
 
-as_many : (fs : List (ℕ × ℕ)) (is : List (Items Global)) → HaveShape fs is → length is ≡ length fs
+pub as_many : (fs : List (ℕ × ℕ)) (is : List (Items Global)) → HaveShape fs is → length is ≡ length fs
 as_many [] [] shape = refl
 as_many [] (i ∷ is) shape = absurd shape
 as_many (f ∷ fs) [] shape = absurd shape
@@ -122,7 +122,7 @@ as_many (f ∷ fs) (i ∷ is) shape = ap suc (as_many fs is shape.1)
 
 -- ---- the record header
 
-offset_back : (local : ℕ) (offset : Option ℕ) → DataHeaderFits local offset
+pub offset_back : (local : ℕ) (offset : Option ℕ) → DataHeaderFits local offset
     → (if unwrap_or offset 0xFF == 0xFF then None else Some (unwrap_or offset 0xFF)) ≡ offset
 offset_back local None fits = refl
 offset_back local (Some o) fits =

@@ -126,7 +126,8 @@ entry_list-append at (c ∷ columns) more =
     ∙ ap (λ a. entry at c ∷ entry_list (at + whole c.size) columns ++ entry_list a more)
     (let same : at + whole c.size + widths columns ≡ at + widths (c ∷ columns) = omega (arith, widths-cons c columns) in same)
 
-three : (a b c : Bool) → a ≡ true → b ≡ true → c ≡ true → (a && b && c) ≡ true
+-- three tests that pass
+pub three : (a b c : Bool) → a ≡ true → b ≡ true → c ≡ true → (a && b && c) ≡ true
 three a b c p q r = rw (p, q, r) refl
 
 entry_back : (developer at : ℕ) (c : Column) → IsShortColumn c → c.developer ≡ developer → entry_stands developer (entry at c) ≡ true
