@@ -6,6 +6,7 @@ mod CopiesTaken
 mod CopyRefusals
 mod DescribedNow
 mod Ends
+mod FoundOnce
 mod Grown
 mod HeardChains
 mod LoneForms

@@ -5,5 +5,6 @@ pub mod OpenFiles
 pub mod Places
 pub mod Spelled
 pub mod Puts
+pub mod Found
 pub mod Runs
 pub mod Kept

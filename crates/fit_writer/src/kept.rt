@@ -8,6 +8,7 @@ ghost use Rattle.fit_writer.specs.inner.OpenFiles.{IsGoodOpenFile};
 ghost use Rattle.fit_writer.specs.inner.Runs.{HasRunInto};
 
 use crate::file::OpenFile;
+use crate::found::least_length;
 use crate::run::put_run;
 use crate::{Refusal, RunRefusal};
 use fit_base::Entries;
@@ -23,6 +24,8 @@ pub(crate) struct Parts {
     pub definition: MessageDef,
     pub codes: Entries<u8>,
     pub slots: Entries<Slot>,
+    /// How long the block of a message is at least.
+    pub least: usize,
 }
 
 /// The block of a definition, the entries of its developer fields, and what else was read of it; none before the first.
@@ -69,10 +72,12 @@ fn read(
         slots,
         dev: _,
     } = lone;
+    let least = least_length(slots.as_slice());
     Ok(Parts {
         definition,
         codes,
         slots,
+        least,
     })
 }
 
@@ -146,6 +151,7 @@ impl Kept {
             definition,
             codes,
             slots,
+            least,
         } = parts;
         let lone = LoneDefinition {
             definition,
@@ -153,7 +159,7 @@ impl Kept {
             slots,
             dev: self.dev.as_slice(),
         };
-        let answered = put_run(alloc, file, &lone, blocks);
+        let answered = put_run(alloc, file, &lone, least, blocks);
         let LoneDefinition {
             definition,
             codes,
@@ -164,6 +170,7 @@ impl Kept {
             definition,
             codes,
             slots,
+            least,
         });
         answered
     }

@@ -6,6 +6,7 @@ mod data;
 mod described;
 mod file;
 mod forms;
+mod found;
 mod kept;
 pub mod laws;
 mod names;

@@ -5,6 +5,7 @@ ghost use Rattle.fit_from_messages.specs.Alone.{why_no_message_at};
 ghost use Rattle.fit_from_messages.specs.Parts as parts;
 ghost use Rattle.fit_from_messages.specs.Parts.{slot_stands};
 ghost use Rattle.fit_writer.specs.Reading as saying;
+ghost use Rattle.fit_writer.specs.inner.Found.{IsOwnPlace};
 ghost use Rattle.fit_writer.specs.inner.OpenFiles.{IsGoodOpenFile, IsHalfPut, current_of};
 ghost use Rattle.fit_writer.specs.inner.Places.{IsLone, form_of};
 ghost use Rattle.fit_writer.specs.inner.Puts.{IsChosen, IsHalfPutInto, IsKeptOffset, IsPutInto, IsToldIn, IsUnchosen, IsRefusedPut, IsUnplaced, limit_of};
@@ -13,6 +14,7 @@ use crate::Refusal;
 use crate::described::would_say_same;
 use crate::file::OpenFile;
 use crate::forms::dated;
+use crate::found::own_place;
 use crate::places::{find_same, free_place};
 use crate::times::{header_time_in, own_time};
 use fit_from_messages::{BlockReason, LoneDefinition, MessageFront, is_lone_message, slots_stand};
@@ -110,6 +112,74 @@ fn put_needed(
     }
 }
 
+/// Puts a message in its own form and with this time offset: at a local message type that is known to be read so, where its header can name
+/// it. What is known from now on is known after the message as well.
+fn put_own(
+    alloc: Global,
+    file: &mut OpenFile,
+    lone: &LoneDefinition<'_>,
+    place: &mut Option<u8>,
+    offset: Option<u8>,
+    block: &[u8],
+) -> Result<(), Refusal>
+    requires good { IsGoodOpenFile file.old }
+    requires lone { IsLone lone.now }
+    requires stand { list_all (slot_stands block.now) lone.now.slots ≡ true }
+    requires offset { IfSome offset (λ o. o < 32) }
+    requires place { IfSome place.old (IsOwnPlace file.old.stream (form_of lone.now)) }
+    ensures ok { OnOk result (IsToldIn file.old file.new (form_of lone.now) block.now offset) }
+    ensures good { IsGoodOpenFile file.new }
+    ensures err { IfErr result (IsHalfPut file.old file.new lone.now.definition) }
+    ensures refused { IfErr result
+        (IsUnplaced file.old.stream (form_of lone.now) block.now offset) }
+    ensures place { IfSome place.new (IsOwnPlace file.new.stream (form_of lone.now)) }
+{
+    let known = own_place(&file.stream, lone, *place);
+    match known {
+        Some(local) if local < limit_of(offset) => {
+            *place = known;
+            file.put_known(MessageFront { local, offset }, lone, block)
+        }
+        _ => {
+            *place = None;
+            put_needed(alloc, file, lone, offset, block)
+        }
+    }
+}
+
+/// Puts a message whose block stands, by its form and the local message type that is known to be read so.
+pub(crate) fn put_standing(
+    alloc: Global,
+    file: &mut OpenFile,
+    lone: &LoneDefinition<'_>,
+    place: &mut Option<u8>,
+    block: &[u8],
+) -> Result<(), Refusal>
+    requires good { IsGoodOpenFile file.old }
+    requires lone { IsLone lone.now }
+    requires front { 24 ≤ length block.now }
+    requires offset { parts.offset_stands block.now ≡ true }
+    requires stand { list_all (slot_stands block.now) lone.now.slots ≡ true }
+    requires place { IfSome place.old (IsOwnPlace file.old.stream (form_of lone.now)) }
+    ensures ok { OnOk result (IsPutInto file.old file.new (form_of lone.now) block.now) }
+    ensures good { IsGoodOpenFile file.new }
+    ensures err { IfErr result
+        (IsHalfPutInto file.old file.new (form_of lone.now) block.now) }
+    ensures refused { IfErr result
+        (IsRefusedPut file.old.stream (form_of lone.now) block.now None) }
+    ensures place { IfSome place.new (IsOwnPlace file.new.stream (form_of lone.now)) }
+{
+    let time = header_time_in(block);
+    let offset = kept_offset(&file.stream, block, time);
+    match needed(alloc, lone, offset.is_some(), time, block)? {
+        None => put_own(alloc, file, lone, place, offset, block),
+        Some(dated) => {
+            *place = None;
+            put_needed(alloc, file, &dated, offset, block)
+        }
+    }
+}
+
 /// Why a message's block can't stand, by where its items are.
 fn reason_of(lone: &LoneDefinition<'_>, block: &[u8]) -> Option<BlockReason>
     ensures reason { result ≡ why_no_message_at block.now lone.now.slots }
@@ -146,10 +216,6 @@ pub(crate) fn put_message(
     if let Some(reason) = reason_of(lone, block) {
         return Err(Refusal::Message(reason));
     }
-    let time = header_time_in(block);
-    let offset = kept_offset(&file.stream, block, time);
-    match needed(alloc, lone, offset.is_some(), time, block)? {
-        None => put_needed(alloc, file, lone, offset, block),
-        Some(dated) => put_needed(alloc, file, &dated, offset, block),
-    }
+    let mut place = None;
+    put_standing(alloc, file, lone, &mut place, block)
 }

@@ -11,6 +11,7 @@ use Rattle.fit_writer.specs.Runs.{IsRunBarred}
 use Rattle.fit_writer.specs.declared.file.OpenFile.{OpenFile}
 use Rattle.fit_writer.specs.declared.kept.Parts.{Parts}
 use Rattle.fit_writer.specs.declared.refusal.RunRefusal.{RunRefusal}
+use Rattle.fit_writer.specs.inner.Found.{least_length}
 use Rattle.fit_writer.specs.inner.OpenFiles.{current_of}
 use Rattle.fit_writer.specs.inner.Runs.{IsRunStopped}
 
@@ -25,6 +26,7 @@ pub record ArePartsOf (p : Parts) (dev block : List ℕ) : Type 0 where
   pub fits : DefinitionFits p.definition
   pub many : length p.codes ≡ length (dev_defs p.definition.dev)
   pub slots_fit : SlotsFit (lone_layout p.definition p.codes) p.slots
+  pub least : p.least ≡ least_length p.slots
 
 abbrev pub IsGoodKept : List ℕ → List ℕ → Option Parts → Type 0
 IsGoodKept block dev parts = IfSome parts (λ p. ArePartsOf p dev block)

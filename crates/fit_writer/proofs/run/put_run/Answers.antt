@@ -18,4 +18,5 @@ loop-rest-preserved c =
       run_more c.args.file.now c.loop-rest.file c.put_first.new.file (form_of c.args.lone.now) c.args.blocks.now c.loop-rest.rest.now
           c.in-Ok.after.now block c.loop-rest.count c.loop-rest.invariant.0 is begins put,
       c.put_first.ensures.good,
+      c.put_first.ensures.found,
     )
