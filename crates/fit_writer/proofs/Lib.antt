@@ -14,6 +14,7 @@ mod Namings
 mod OwnTimes
 mod PartsRead
 mod Puts
+mod ReadAmounts
 mod ReadThere
 mod Runs
 mod SaidNames

@@ -1,5 +1,6 @@
 pub mod Reading
 pub mod Written
+pub mod Amounts
 pub mod Runs
 pub mod Finished
 pub mod Laws

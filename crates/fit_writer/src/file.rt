@@ -19,6 +19,7 @@ ghost use Rattle.fit_writer.specs.inner.Places.{IsLone, form_of};
 ghost use Rattle.fit_writer.specs.inner.Spelled.{IsSpelled};
 
 use crate::Refusal;
+use crate::amounts::NOTHING;
 use crate::chain::Chain;
 use crate::data::{add_message, add_record, has_room};
 use crate::forms::with_local;
@@ -27,7 +28,7 @@ use fit_base::Order;
 use fit_encode::spell;
 use fit_frame::Header;
 use fit_from_messages::{LoneDefinition, MessageFront, spell_lone};
-use fit_profile::Stream;
+use fit_profile::{Stream, Told};
 use fit_record::{MessageDef, Record, body_length};
 use std::alloc::{AllocError, Global};
 
@@ -38,6 +39,8 @@ pub(crate) struct OpenFile {
     pub data: Vec<u8>,
     /// What a reader of them would have.
     pub stream: Stream,
+    /// What it would be told of the last message.
+    pub told: Told,
     pub turns: Turns,
     /// Where the bytes of a definition message and of a message are made.
     pub defining: Vec<u8>,
@@ -51,6 +54,7 @@ impl Drop for OpenFile {
             message: _message,
             defining: _defining,
             turns: _,
+            told: _,
             stream: _stream,
             data: _data,
             header: _,
@@ -87,6 +91,7 @@ impl OpenFile {
             header: Header::new(0, 0),
             data: Vec::new(alloc),
             stream: Stream::new(alloc),
+            told: NOTHING,
             turns: Turns::new(),
             defining: Vec::new(alloc),
             message: Vec::new(alloc),
@@ -102,6 +107,7 @@ impl OpenFile {
         self.header = header;
         self.data.clear();
         self.stream.begin_file();
+        self.told = NOTHING;
         self.turns = Turns::new();
     }
 
@@ -168,7 +174,8 @@ impl OpenFile {
         if !has_room(self.data.as_slice(), bytes.len()) {
             return Err(Refusal::TooLong);
         }
-        add_message(&mut self.data, &mut self.stream, bytes)?;
+        let told = add_message(&mut self.data, &mut self.stream, bytes)?;
+        self.told = told;
         self.turns.note(front.local);
         Ok(())
     }
@@ -205,7 +212,8 @@ impl OpenFile {
             return Err(Refusal::TooLong);
         }
         add_record(&mut self.data, &mut self.stream, defining, &record_)?;
-        add_message(&mut self.data, &mut self.stream, bytes)?;
+        let told = add_message(&mut self.data, &mut self.stream, bytes)?;
+        self.told = told;
         self.turns.note(front.local);
         Ok(())
     }

@@ -1,9 +1,11 @@
 //! Messages as blocks of bytes, written one after another into a chain of FIT files: what a reader of the chain is told is what was put.
 #![tactic(auto)]
 
+mod amounts;
 mod chain;
 mod data;
 mod described;
+mod done;
 mod file;
 mod forms;
 mod found;
@@ -17,5 +19,6 @@ mod run;
 mod times;
 mod writer;
 
+pub use done::{Put, Run};
 pub use refusal::{FinishFault, Refusal, RunRefusal};
 pub use writer::MessageWriter;

@@ -8,10 +8,12 @@ use Rattle.fit_record.specs.declared.message.Record.{Record}
 use Rattle.fit_record.specs.Environment.{empty_environment}
 use Rattle.fit_record.specs.Files.{chain_limit}
 use Rattle.fit_record.specs.Records.{AllFit, records_bytes}
+use Rattle.fit_writer.specs.Amounts.{amounts_in}
 use Rattle.fit_writer.specs.Written.{Current, PutsDefining, Writing, data_length}
 use Rattle.fit_writer.specs.declared.file.OpenFile.{OpenFile}
 use Rattle.fit_writer.specs.declared.refusal.Refusal.{Refusal}
 use Rattle.fit_writer.specs.declared.refusal.Refusal.TheVariants.{NoMemory, TooLong}
+use Rattle.fit_writer.specs.inner.Told.{latest_amounts}
 
 -- what has been written of it
 abbrev pub current_of : OpenFile → Current
@@ -33,6 +35,7 @@ pub record AreData (section : List ℕ) (stream : List (Record Global)) : Type 0
 pub record IsGoodOpenFile (f : OpenFile) : Type 0 where
   pub form : FormFits f.header
   pub are_data : AreData f.data.items f.stream
+  pub told : amounts_in f.told ≡ latest_amounts f.stream
 
 pub record IsGoodWriter (files : List (FitFile Global)) (is_open : Bool) (file : OpenFile) : Type 0 where
   pub few : length files + (if is_open then 1 else 0) ≤ chain_limit

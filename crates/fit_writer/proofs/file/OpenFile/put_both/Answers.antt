@@ -56,4 +56,4 @@ returns-clause-ok c =
     let added = c.in_ok-add_record.ensures.ok ∙ ap (λ (d : MessageDef Global). let r : Record Global = Define d in r ∷ s) c.in_ok-with_local.ensures in
     let is = subst (λ (st : List (Record Global)). IsRecord (known st) (Data (message a)) c.split_at.result.0.now) (sym added) (is_record a) in
     ap (λ (rs : List (Record Global)). current_with c.args.self.now rs)
-    (c.in_ok-add_message.ensures.ok (message a) is ∙ ap (λ (st : List (Record Global)). let r : Record Global = Data (message a) in r ∷ st) added)
+    (c.in_ok-told.ensures.ok (message a) is ∙ ap (λ (st : List (Record Global)). let r : Record Global = Data (message a) in r ∷ st) added)

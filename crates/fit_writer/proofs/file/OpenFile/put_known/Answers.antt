@@ -42,4 +42,4 @@ add_message-requires-clause-message c =
 pub returns-clause-ok : goal.returns-clause-ok
 returns-clause-ok c =
     let a = (goal.at.returns-clause-ok c).After-has_room in
-    ap (λ (rs : List (Record Global)). current_with c.args.self.now rs) (c.in_ok-add_message.ensures.ok (message a) (is_record a))
+    ap (λ (rs : List (Record Global)). current_with c.args.self.now rs) (c.in_ok-told.ensures.ok (message a) (is_record a))
