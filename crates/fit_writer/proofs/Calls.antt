@@ -103,8 +103,8 @@ definition_refusal c block d why stands same unput = go why (subst (λ (e : Mess
 
 -- ---- results that are handed on
 
-pub err_message : (w : Writing) (files : List (FitFile Global)) (is_open : Bool) (file : OpenFile) (d : LoneDefinition) (definition block : List ℕ)
-    (r : Result (Unit {0}) Refusal) → writing_of files is_open file ≡ w → is_open ≡ true → why_no_lone_definition definition ≡ None
+pub err_message : {X : Type 0} (w : Writing) (files : List (FitFile Global)) (is_open : Bool) (file : OpenFile) (d : LoneDefinition) (definition block : List ℕ)
+    (r : Result X Refusal) → writing_of files is_open file ≡ w → is_open ≡ true → why_no_lone_definition definition ≡ None
     → form_of d ≡ form_in definition → d.slots ≡ slots_in definition
     → IfErr r (IsRefusedPut file.stream (form_of d) block (why_no_message_at block d.slots)) → IfErr r (IsMessageRefusal w.current definition block)
 err_message w files is_open file d definition block (Ok x) view is stands same slots h = tt
@@ -112,8 +112,17 @@ err_message w files is_open file d definition block (Err why) view is stands sam
     subst (λ (v : Writing). IsMessageRefusal v.current definition block why) (ap (λ (b : Bool). writing_of files b file) (sym is) ∙ view)
     (message_refusal (current_of file) definition block (form_of d) d why stands same slots h)
 
-pub err_keeps : (w : Writing) (files : List (FitFile Global)) (is_open : Bool) (old new : OpenFile) (f g : Form) (block : List ℕ)
-    (r : Result (Unit {0}) Refusal) → writing_of files is_open old ≡ w → is_open ≡ true → f ≡ g → IfErr r (IsHalfPutInto old new f block)
+pub ok_message : {X : Type 0} (w : Writing) (files : List (FitFile Global)) (is_open : Bool) (old new : OpenFile) (f g : Form) (block : List ℕ)
+    (r : Result X Refusal) → writing_of files is_open old ≡ w → is_open ≡ true → f ≡ g → OnOk r (IsPutInto old new f block)
+    → OnOk r (PutsMessage w (writing_of files is_open new) g block)
+ok_message w files is_open old new f g block (Err why) view is same h = tt
+ok_message w files is_open old new f g block (Ok x) view is same h =
+    subst (λ (b : Bool). PutsMessage w (writing_of files b new) g block) (sym is)
+    (subst (λ (v : Writing). PutsMessage v (writing_of files true new) g block) (ap (λ (b : Bool). writing_of files b old) (sym is) ∙ view)
+    (puts_message files old new f g block same h))
+
+pub err_keeps : {X : Type 0} (w : Writing) (files : List (FitFile Global)) (is_open : Bool) (old new : OpenFile) (f g : Form) (block : List ℕ)
+    (r : Result X Refusal) → writing_of files is_open old ≡ w → is_open ≡ true → f ≡ g → IfErr r (IsHalfPutInto old new f block)
     → IfErr r (KeepsAll w (writing_of files is_open new) g block)
 err_keeps w files is_open old new f g block (Ok x) view is same h = tt
 err_keeps w files is_open old new f g block (Err why) view is same h =

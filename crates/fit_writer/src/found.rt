@@ -20,6 +20,8 @@ use fit_profile::Stream;
 pub(crate) struct Found {
     /// How long a block is at least in which all items are.
     pub length: usize,
+    /// Whether blocks say speed, distance, cycles and power.
+    pub has: bool,
     /// The local message type whose messages are read as these, once it was looked for and there is one.
     pub place: Option<u8>,
 }

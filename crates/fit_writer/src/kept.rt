@@ -1,16 +1,18 @@
 //! The definition whose messages were put last, kept as it was read.
 ghost use Rattle.std.specs.Prelude.{◌≡◌, [], IfErr, IfOk, IfSome, None, OnOk};
 ghost use Rattle.fit_from_messages.specs.Alone.{why_no_lone_definition};
+ghost use Rattle.fit_writer.specs.Amounts as amounts;
 ghost use Rattle.fit_writer.specs.Reading.{form_in};
 ghost use Rattle.fit_writer.specs.Runs.{IsUnreadDefinition};
 ghost use Rattle.fit_writer.specs.inner.Kept.{ArePartsOf, IsRunOfBlock};
 ghost use Rattle.fit_writer.specs.inner.OpenFiles.{IsGoodOpenFile};
 ghost use Rattle.fit_writer.specs.inner.Runs.{HasRunInto};
 
+use crate::amounts::has_amounts;
 use crate::file::OpenFile;
-use crate::found::least_length;
+use crate::found::{Found, least_length};
 use crate::run::put_run;
-use crate::{Refusal, RunRefusal};
+use crate::{Refusal, Run, RunRefusal};
 use fit_base::Entries;
 use fit_from_messages::{LoneDefinition, Misfit, Slot, lone_definition};
 use fit_record::MessageDef;
@@ -107,10 +109,11 @@ fn known(
 
 /// Why a run stops before its first block.
 pub(crate) fn barred(refusal: Refusal) -> RunRefusal
-    ensures { result ≡ record { count = 0; place = 0; refusal = refusal } }
+    ensures { result ≡ record { count = 0; accumulated = 0; place = 0; refusal = refusal } }
 {
     RunRefusal {
         count: 0,
+        accumulated: 0,
         place: 0,
         refusal,
     }
@@ -133,15 +136,17 @@ impl Kept {
         file: &mut OpenFile,
         definition: &[u8],
         blocks: &[u8],
-    ) -> Result<u64, RunRefusal>
+    ) -> Result<Run, RunRefusal>
         requires good { IsGoodOpenFile file.old }
         ensures stands { OnOk result (why_no_lone_definition definition.now ≡ None) }
-        ensures ok { IfOk result (λ count.
-            HasRunInto file.old file.new (form_in definition.now) blocks.now count []) }
+        ensures ok { IfOk result (λ run. HasRunInto file.old file.new
+            (form_in definition.now) (amounts.has_amounts definition.now)
+            blocks.now run.count run.accumulated []) }
         ensures good { IsGoodOpenFile file.new }
         ensures err { IfErr result
             (IsRunOfBlock file.old file.new definition.now blocks.now) }
     {
+        let has = has_amounts(definition);
         let kept = mem::replace(&mut self.parts, None);
         let parts = match known(alloc, kept, &mut self.block, &mut self.dev, definition) {
             Ok(parts) => parts,
@@ -159,7 +164,12 @@ impl Kept {
             slots,
             dev: self.dev.as_slice(),
         };
-        let answered = put_run(alloc, file, &lone, least, blocks);
+        let found = Found {
+            length: least,
+            has,
+            place: None,
+        };
+        let answered = put_run(alloc, file, &lone, found, blocks);
         let LoneDefinition {
             definition,
             codes,

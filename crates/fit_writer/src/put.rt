@@ -1,22 +1,25 @@
 //! In which form a message is put.
-ghost use Rattle.std.specs.Prelude.{◌≡◌, ◌<◌, ◌≤◌, ◌∷◌, ℕ, IfErr, IfOk, IfSome, IsNone, None, OnErr, OnOk, Some, length, true};
+ghost use Rattle.std.specs.Prelude.{◌≡◌, ◌↔◌, ◌<◌, ◌≤◌, ◌∷◌, ℕ, IfErr, IfOk, IfSome, IsNone, IsTrue, None, OnErr, OnOk, Some, length, true};
 ghost use Rattle.std.specs.List.{list_all};
 ghost use Rattle.fit_from_messages.specs.Alone.{why_no_message_at};
 ghost use Rattle.fit_from_messages.specs.Parts as parts;
 ghost use Rattle.fit_from_messages.specs.Parts.{slot_stands};
+ghost use Rattle.fit_writer.specs.Amounts.{amounts_by};
 ghost use Rattle.fit_writer.specs.Reading as saying;
 ghost use Rattle.fit_writer.specs.inner.Found.{IsOwnPlace};
 ghost use Rattle.fit_writer.specs.inner.OpenFiles.{IsGoodOpenFile, IsHalfPut, current_of};
 ghost use Rattle.fit_writer.specs.inner.Places.{IsLone, form_of};
+ghost use Rattle.fit_writer.specs.inner.Told.{latest_amounts};
 ghost use Rattle.fit_writer.specs.inner.Puts.{IsChosen, IsHalfPutInto, IsKeptOffset, IsPutInto, IsToldIn, IsUnchosen, IsRefusedPut, IsUnplaced, limit_of};
 
-use crate::Refusal;
+use crate::amounts::is_told;
 use crate::described::would_say_same;
 use crate::file::OpenFile;
 use crate::forms::dated;
 use crate::found::own_place;
 use crate::places::{find_same, free_place};
 use crate::times::{header_time_in, own_time};
+use crate::{Put, Refusal};
 use fit_from_messages::{BlockReason, LoneDefinition, MessageFront, is_lone_message, slots_stand};
 use fit_profile::Stream;
 use std::alloc::{AllocError, Global};
@@ -198,7 +201,7 @@ fn reason_of(lone: &LoneDefinition<'_>, block: &[u8]) -> Option<BlockReason>
 }
 
 /// Puts a message by its form.
-pub(crate) fn put_message(
+fn put_message(
     alloc: Global,
     file: &mut OpenFile,
     lone: &LoneDefinition<'_>,
@@ -218,4 +221,31 @@ pub(crate) fn put_message(
     }
     let mut place = None;
     put_standing(alloc, file, lone, &mut place, block)
+}
+
+/// Puts a message by its form, and says whether a reader is told the amounts that its block says, where messages of its definition have them.
+pub(crate) fn put_told(
+    alloc: Global,
+    file: &mut OpenFile,
+    lone: &LoneDefinition<'_>,
+    has: bool,
+    block: &[u8],
+) -> Result<Put, Refusal>
+    requires good { IsGoodOpenFile file.old }
+    requires lone { IsLone lone.now }
+    ensures ok { OnOk result (IsPutInto file.old file.new (form_of lone.now) block.now) }
+    ensures told { IfOk result (λ put. IsTrue put.accumulated
+        ↔ (latest_amounts file.new.stream ≡ amounts_by has block.now)) }
+    ensures good { IsGoodOpenFile file.new }
+    ensures err { IfErr result
+        (IsHalfPutInto file.old file.new (form_of lone.now) block.now) }
+    ensures refused { IfErr result (IsRefusedPut file.old.stream (form_of lone.now) block.now
+        (why_no_message_at block.now lone.now.slots)) }
+{
+    match put_message(alloc, file, lone, block) {
+        Ok(()) => Ok(Put {
+            accumulated: is_told(file.told, has, block),
+        }),
+        Err(refusal) => Err(refusal),
+    }
 }

@@ -52,6 +52,8 @@ impl From<AllocError> for Refusal {
 pub struct RunRefusal {
     /// How many messages were put.
     pub count: u64,
+    /// How many of them come before the first of which a reader is told other amounts than its block says.
+    pub accumulated: u64,
     /// Where the block begins that wasn't.
     pub place: u64,
     pub refusal: Refusal,

@@ -3,16 +3,18 @@ ghost use Rattle.std.specs.Prelude.{◌≡◌, ◌↔◌, ◌<◌, IfErr, IfOk, 
 ghost use Rattle.fit_decode.specs.Reads.{channel};
 ghost use Rattle.fit_record.specs.Files.{chain_limit};
 ghost use Rattle.fit_from_messages.specs.Parts.{definition_in, header_in};
+ghost use Rattle.fit_writer.specs.Amounts.{IsToldAmounts};
 ghost use Rattle.fit_writer.specs.Reading.{form_in};
 ghost use Rattle.fit_writer.specs.Written.{BeginsFile, PutsDefinition, EndsFile, IsDefinitionRefusal, IsHeaderRefusal, IsMessageRefusal, KeepsAll, PutsMessage, file_count, nothing_written};
 ghost use Rattle.fit_writer.specs.Runs.{PutsMessages, StopsRun};
 ghost use Rattle.fit_writer.specs.Finished.{IsFinished, IsNotFinished};
 
+use crate::amounts::has_amounts;
 use crate::chain::Chain;
 use crate::file::OpenFile;
 use crate::kept::{Kept, barred};
-use crate::put::put_message;
-use crate::{FinishFault, Refusal, RunRefusal};
+use crate::put::put_told;
+use crate::{FinishFault, Put, Refusal, Run, RunRefusal};
 use fit_encode::Sink;
 use fit_from_messages::{Misfit, lone_definition, lone_header};
 use std::alloc::{AllocError, Global};
@@ -101,10 +103,13 @@ impl MessageWriter {
     /// a timestamp that it can't have; `Described` where no definition with its developer fields is there that gives them these base types,
     /// names and units, nor would one that came now: put messages first that describe them; `TooLong` where the file would have more data
     /// than a file may have.
-    pub fn put_message(&mut self, definition: &[u8], block: &[u8]) -> Result<(), Refusal>
+    pub fn put_message(&mut self, definition: &[u8], block: &[u8]) -> Result<Put, Refusal>
         // A reader is told what the block says, after all that it is told before.
         ensures written { OnOk result (PutsMessage self.old self.new
             (form_in definition.now) block.now) }
+        // It says whether that is so of speed, distance, cycles and power too.
+        ensures accumulated { IfOk result (λ put. IsToldAmounts self.old self.new
+            definition.now block.now put.accumulated) }
         ensures refused { IfErr result
             (IsMessageRefusal self.old.current definition.now block.now) }
         // Where memory is refused, the definition message may have been put, which tells no message.
@@ -115,15 +120,19 @@ impl MessageWriter {
             return Err(Refusal::NoFile);
         }
         match lone_definition(self.alloc, definition) {
-            Ok(lone) => put_message(self.alloc, &mut self.file, &lone, block),
+            Ok(lone) => {
+                let has = has_amounts(definition);
+                put_told(self.alloc, &mut self.file, &lone, has, block)
+            }
             Err(Misfit::Block(reason)) => Err(Refusal::Block(reason)),
             Err(Misfit::NoMemory) => Err(Refusal::NoMemory),
         }
     }
 
     /// Puts the messages whose blocks stand one after another, by the block of their definition, as `put_message` does one after another. It
-    /// stops at the first that is refused. Returns how many were put.
-    pub fn put_messages(&mut self, definition: &[u8], blocks: &[u8]) -> Result<u64, RunRefusal>
+    /// stops at the first that is refused. Returns how many were put, and of how many first ones a reader is told the speed, distance, cycles
+    /// and power that their blocks say.
+    pub fn put_messages(&mut self, definition: &[u8], blocks: &[u8]) -> Result<Run, RunRefusal>
         ensures written { IfOk result
             (PutsMessages self.old self.new definition.now blocks.now) }
         // Messages were put up to the one that is refused, and its refusal is that of `put_message`.

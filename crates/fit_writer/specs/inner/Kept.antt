@@ -6,6 +6,7 @@ use Rattle.fit_record.specs.Records.{DefinitionFits}
 use Rattle.fit_from_messages.specs.Alone.{codes_in, lone_layout, why_no_lone_definition}
 use Rattle.fit_from_messages.specs.Parts.{definition_in, dev_entries, entries_of, entry_stands, slots_in}
 use Rattle.fit_from_messages.specs.Slots.{SlotsFit}
+use Rattle.fit_writer.specs.Amounts.{has_amounts}
 use Rattle.fit_writer.specs.Reading.{form_in}
 use Rattle.fit_writer.specs.Runs.{IsRunBarred}
 use Rattle.fit_writer.specs.declared.file.OpenFile.{OpenFile}
@@ -34,5 +35,5 @@ IsGoodKept block dev parts = IfSome parts (λ p. ArePartsOf p dev block)
 -- A run stopped before its first block, or at one.
 abbrev pub IsRunOfBlock : OpenFile → OpenFile → List ℕ → List ℕ → RunRefusal → Type 0
 IsRunOfBlock old new definition bytes stop =
-    ((current_of new ≡ current_of old) × (stop.count ≡ 0) × (stop.place ≡ 0) × IsRunBarred (Some (current_of old)) definition stop.refusal)
-    ⊎ ((why_no_lone_definition definition ≡ None) × IsRunStopped old new (form_in definition) bytes stop)
+    ((current_of new ≡ current_of old) × (stop.count ≡ 0) × (stop.accumulated ≡ 0) × (stop.place ≡ 0) × IsRunBarred (Some (current_of old)) definition stop.refusal)
+    ⊎ ((why_no_lone_definition definition ≡ None) × IsRunStopped old new (form_in definition) (has_amounts definition) bytes stop)

@@ -6,7 +6,7 @@ use Rattle.fit_writer.specs.inner.Runs.{HasRunInto}
 use Rattle.fit_writer.proofs.run.put_run.Given as goal
 
 abbrev pub invariant-loop-rest : goal.invariant-loop-rest
-invariant-loop-rest l = HasRunInto l.fn.file l.file (form_of l.lone) l.blocks l.count l.rest × IsGoodOpenFile l.file
+invariant-loop-rest l = HasRunInto l.fn.file l.file (form_of l.lone) l.first.has l.blocks l.count l.accumulated l.rest × IsGoodOpenFile l.file
     × IsFound l.file.stream (form_of l.lone) l.found
 
 abbrev pub decreases-loop-rest : goal.decreases-loop-rest
