@@ -111,7 +111,8 @@ typedef struct gazhdor_answer {
     uint64_t row;    /* with GAZHDOR_TEXT, counted from 1, the first line included; with GAZHDOR_BLOCK, a block, counted from 0; of
                       * gazhdor_writer_messages with each status how many messages were put */
     uint64_t column; /* with GAZHDOR_TEXT, counted from 1; 0 where the row as a whole is refused; see gazhdor_writer_messages */
-    uint64_t files;  /* with GAZHDOR_GOOD, of gazhdor_check and gazhdor_finish how many files there are, of gazhdor_feed how many have ended */
+    uint64_t files;  /* with GAZHDOR_GOOD, of gazhdor_check and gazhdor_finish how many files there are, of gazhdor_feed how many have ended;
+                      * see gazhdor_writer_messages */
 } gazhdor_answer;
 
 /* Some bytes that a call has made: UTF-8 text, blocks, or a FIT file. No zero byte ends them. */
@@ -233,7 +234,8 @@ gazhdor_answer gazhdor_writer_definition(gazhdor_writer *writer, const uint8_t *
 
 /* Puts the messages whose blocks stand one after another, by the block of their definition, up to the first that can't be put. `row` is how
  * many were put, so with GAZHDOR_BLOCK the number of the one that wasn't, and `place` where that begins in `blocks`; `column` is 1 where it
- * is the definition that can't stand, else 0. */
+ * is the definition that can't stand, else 0. `files` is how many were put before the first of which a reader is told another speed or
+ * distance, other cycles or another power than its block says: as many as `row` where there is none. */
 gazhdor_answer gazhdor_writer_messages(gazhdor_writer *writer, const uint8_t *definition, size_t definition_length, const uint8_t *blocks,
     size_t length);
 

@@ -6,6 +6,7 @@ use Rattle.fit_from_messages.specs.Parts.{definition_in, header_in}
 use Rattle.fit_writer.specs.Finished.{IsFinished, IsNotFinished}
 use Rattle.fit_writer.specs.Runs.{PutsMessages, StopsRun}
 use Rattle.fit_writer.specs.Written.{BeginsFile, IsDefinitionRefusal, IsHeaderRefusal, PutsDefinition, Writing}
+use Rattle.fit_writer.specs.declared.done.Run.{Run}
 use Rattle.fit_writer.specs.declared.refusal.FinishFault.{FinishFault}
 use Rattle.fit_writer.specs.declared.refusal.FinishFault.TheVariants as finish
 use Rattle.fit_writer.specs.declared.refusal.Refusal.{Refusal}
@@ -40,11 +41,12 @@ abbrev pub definition_column : Refusal → ℕ
 definition_column (refusal.Block reason) = 1
 definition_column _ = 0
 
--- what is said of what a run of messages answered: how many were put, and where the next begins
-abbrev pub run_answer : Result ℕ RunRefusal → FitAnswer
-run_answer (Ok count) = record (status_alone 0) { row = count }
+-- what is said of what a run of messages answered: how many were put, how many come before the first whose amounts are read otherwise, and where
+-- the next begins
+abbrev pub run_answer : Result Run RunRefusal → FitAnswer
+run_answer (Ok run) = record (status_alone 0) { row = run.count; files = run.accumulated }
 run_answer (Err stop) =
-    record (refusal_answer stop.refusal) { place = stop.place; row = stop.count; column = definition_column stop.refusal }
+    record (refusal_answer stop.refusal) { place = stop.place; row = stop.count; column = definition_column stop.refusal; files = stop.accumulated }
 
 -- what is said of what the end of a chain answered; the sink is memory, which may be refused
 abbrev pub finish_answer : Result (Unit {0}) FinishFault → FitAnswer
@@ -67,7 +69,7 @@ AnswersDefinition old new block a =
 
 abbrev pub AnswersMessages : Writing → Writing → List ℕ → List ℕ → FitAnswer → Type 0
 AnswersMessages old new definition blocks a =
-    (r : Result ℕ RunRefusal) × (a ≡ run_answer r) × IfOk r (PutsMessages old new definition blocks) × IfErr r (StopsRun old new definition blocks)
+    (r : Result Run RunRefusal) × (a ≡ run_answer r) × IfOk r (PutsMessages old new definition blocks) × IfErr r (StopsRun old new definition blocks)
 
 -- Into a sink that was empty the chain was put, and it is handed out; or that failed, and nothing is.
 abbrev pub AnswersFinish : Writing → Writing → List ℕ → FitAnswer → Type 0

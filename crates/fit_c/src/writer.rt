@@ -9,7 +9,7 @@ use crate::FitAnswer;
 use crate::answer::{block_code, plain};
 use crate::texts::{handed_where, memory};
 use crate::writer_handle::FitWriter;
-use fit_writer::{FinishFault, MessageWriter, Refusal, RunRefusal};
+use fit_writer::{FinishFault, MessageWriter, Refusal, Run, RunRefusal};
 use std::alloc::Global;
 
 /// The answer for a block that can't stand, for the reason with this number.
@@ -56,18 +56,20 @@ fn column_of(refusal: Refusal) -> u64
 }
 
 /// The answer for what a run of messages returned.
-fn answer_for_run(answered: Result<u64, RunRefusal>) -> FitAnswer
+fn answer_for_run(answered: Result<Run, RunRefusal>) -> FitAnswer
     ensures { result ≡ run_answer answered }
 {
     match answered {
-        Ok(count) => FitAnswer {
-            row: count,
+        Ok(run) => FitAnswer {
+            row: run.count,
+            files: run.accumulated,
             ..plain(0)
         },
         Err(stop) => FitAnswer {
             place: stop.place,
             row: stop.count,
             column: column_of(stop.refusal),
+            files: stop.accumulated,
             ..answer_for_refusal(stop.refusal)
         },
     }
