@@ -10,6 +10,8 @@ mod put;
 #[cfg(test)]
 mod put_alone;
 #[cfg(test)]
+mod put_amounts;
+#[cfg(test)]
 mod put_described;
 #[cfg(test)]
 mod refused;

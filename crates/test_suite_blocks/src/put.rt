@@ -85,12 +85,14 @@ impl<'a> Given<'a> {
 
 /// Puts a message. With developer fields of which no definition is there, it is put after its own.
 fn put_message(writer: &mut MessageWriter, definition: &[u8], block: &[u8]) -> Result<(), Refusal> {
-    let put = writer.put_message(definition, block);
-    if put != Err(Refusal::Described) {
-        return put;
+    match writer.put_message(definition, block) {
+        Ok(_) => return Ok(()),
+        Err(Refusal::Described) => {}
+        Err(refusal) => return Err(refusal),
     }
     writer.put_definition(definition)?;
-    writer.put_message(definition, block)
+    writer.put_message(definition, block)?;
+    Ok(())
 }
 
 /// Puts one block, if it is chosen.

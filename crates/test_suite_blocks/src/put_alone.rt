@@ -5,7 +5,7 @@ use crate::back::blocks_of;
 use crate::put::{between, first_block};
 use fit_encode::CutSink;
 use fit_from_messages::BlockReason;
-use fit_writer::{FinishFault, MessageWriter, Refusal};
+use fit_writer::{FinishFault, MessageWriter, Put, Refusal};
 use std::alloc::Global;
 use std::process::Abort;
 use test_known::{BOTH_ORDERS, DEVELOPER_FIELD};
@@ -15,13 +15,16 @@ const SECOND_ALONE: [u8; 41] =
     *b"\x0E\x20\0\0\x19\0\0\0.FIT\x5D\xE3\x41\0\x01\0\x14\x03\xFD\x04\x86\x02\x02\x84\x08\x03\x0D\
     \x01\x3B\x9A\xCA\x22\x09\xC4\x64\0\x10\xD7\x19";
 
+/// A message was put, and a reader is told the amounts that its block says.
+const AS_SAID: Result<Put, Refusal> = Ok(Put { accumulated: true });
+
 /// Puts the first message of some blocks like those of `BOTH_ORDERS`.
-fn put_first(writer: &mut MessageWriter, blocks: &[u8]) -> Result<(), Refusal> {
+fn put_first(writer: &mut MessageWriter, blocks: &[u8]) -> Result<Put, Refusal> {
     writer.put_message(between(blocks, 32, 192), between(blocks, 192, 248))
 }
 
 /// Puts the second message of some blocks like those of `BOTH_ORDERS`.
-fn put_second(writer: &mut MessageWriter, blocks: &[u8]) -> Result<(), Refusal> {
+fn put_second(writer: &mut MessageWriter, blocks: &[u8]) -> Result<Put, Refusal> {
     writer.put_message(between(blocks, 248, 424), between(blocks, 424, 512))
 }
 
@@ -43,7 +46,7 @@ fn writes(rt: &impl Abort, writer: &mut MessageWriter, wanted: &[u8]) {
 fn alone_it_gets_a_timestamp(rt: HostRuntime) {
     let blocks = blocks_of(&rt, rt.alloc(), &BOTH_ORDERS);
     let mut writer = begun(&rt, rt.alloc(), blocks.as_slice());
-    equal(&rt, &put_second(&mut writer, blocks.as_slice()), &Ok(()));
+    equal(&rt, &put_second(&mut writer, blocks.as_slice()), &AS_SAID);
     writes(&rt, &mut writer, &SECOND_ALONE);
 }
 
@@ -51,8 +54,8 @@ fn alone_it_gets_a_timestamp(rt: HostRuntime) {
 fn after_the_other_it_keeps_its_offset(rt: HostRuntime) {
     let blocks = blocks_of(&rt, rt.alloc(), &BOTH_ORDERS);
     let mut writer = begun(&rt, rt.alloc(), blocks.as_slice());
-    equal(&rt, &put_first(&mut writer, blocks.as_slice()), &Ok(()));
-    equal(&rt, &put_second(&mut writer, blocks.as_slice()), &Ok(()));
+    equal(&rt, &put_first(&mut writer, blocks.as_slice()), &AS_SAID);
+    equal(&rt, &put_second(&mut writer, blocks.as_slice()), &AS_SAID);
     writes(&rt, &mut writer, &BOTH_ORDERS);
 }
 
@@ -62,8 +65,8 @@ fn a_definition_that_was_put_is_taken(rt: HostRuntime) {
     let mut writer = begun(&rt, rt.alloc(), blocks.as_slice());
     let defined = writer.put_definition(between(blocks.as_slice(), 32, 192));
     equal(&rt, &defined, &Ok(()));
-    equal(&rt, &put_first(&mut writer, blocks.as_slice()), &Ok(()));
-    equal(&rt, &put_second(&mut writer, blocks.as_slice()), &Ok(()));
+    equal(&rt, &put_first(&mut writer, blocks.as_slice()), &AS_SAID);
+    equal(&rt, &put_second(&mut writer, blocks.as_slice()), &AS_SAID);
     writes(&rt, &mut writer, &BOTH_ORDERS);
 }
 
@@ -103,10 +106,10 @@ fn developer_fields_want_their_description(rt: HostRuntime) {
     equal(&rt, &writer.put_definition(part(blocks, 6)), &Ok(()));
     refused_undescribed(&rt, &mut writer, blocks);
     let put = writer.put_message(part(blocks, 1), part(blocks, 4));
-    equal(&rt, &put, &Ok(()));
+    equal(&rt, &put, &AS_SAID);
     // Now a definition that comes with the message says it.
     let put = writer.put_message(part(blocks, 6), part(blocks, 7));
-    equal(&rt, &put, &Ok(()));
+    equal(&rt, &put, &AS_SAID);
     writes(&rt, &mut writer, &DESCRIBED_LATER);
 }
 
@@ -114,7 +117,7 @@ fn developer_fields_want_their_description(rt: HostRuntime) {
 fn a_sink_that_fails_loses_nothing(rt: HostRuntime) {
     let blocks = blocks_of(&rt, rt.alloc(), &BOTH_ORDERS);
     let mut writer = begun(&rt, rt.alloc(), blocks.as_slice());
-    equal(&rt, &put_second(&mut writer, blocks.as_slice()), &Ok(()));
+    equal(&rt, &put_second(&mut writer, blocks.as_slice()), &AS_SAID);
     for room in 0..41 {
         let mut sink = CutSink::<128>::new(room);
         let fault = FinishFault::Write {

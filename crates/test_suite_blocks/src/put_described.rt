@@ -55,7 +55,8 @@ fn begin(rt: &impl Abort, writer: &mut MessageWriter, blocks: &[u8]) {
 fn put(writer: &mut MessageWriter, blocks: &[u8], number: usize) -> Result<(), Refusal> {
     match MESSAGES.get(number) {
         Some((from, to, begin, end)) => {
-            writer.put_message(between(blocks, *from, *to), between(blocks, *begin, *end))
+            writer.put_message(between(blocks, *from, *to), between(blocks, *begin, *end))?;
+            Ok(())
         }
         None => Ok(()),
     }
