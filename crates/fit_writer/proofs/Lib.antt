@@ -6,10 +6,10 @@ mod CopiesTaken
 mod CopyRefusals
 mod DescribedNow
 mod Ends
-mod FoundOnce
 mod Grown
 mod HeardChains
 mod LoneForms
+mod LongEnough
 mod Namings
 mod OwnTimes
 mod PartsRead

@@ -1,4 +1,4 @@
-use Rattle.fit_writer.proofs.FoundOnce.{items_reason, items_stand, no_reason}
+use Rattle.fit_writer.proofs.LongEnough.{items_reason, items_stand, no_reason}
 use Rattle.fit_writer.proofs.found.reason_by.Goals as goal
 
 pub returns-then-least-block-clause-reason : goal.returns-then-least-block-clause-reason

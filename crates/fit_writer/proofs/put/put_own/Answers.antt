@@ -1,7 +1,6 @@
 use Rattle.std.proofs.Common.{◌∷◌}
 use Rattle.fit_record.specs.declared.message.Record.TheVariants.{Values as Data}
 use Rattle.fit_writer.proofs.Ends.{err_unplaced, ok_told}
-use Rattle.fit_writer.proofs.FoundOnce.{own_after}
 use Rattle.fit_writer.proofs.Puts.{told_known}
 use Rattle.fit_writer.specs.Reading.{values_by}
 use Rattle.fit_writer.specs.inner.Places.{form_of}

@@ -1,31 +1,16 @@
--- What was found once for the messages of a run holds of each.
-use Rattle.std.proofs.Common.{◌≡◌, ◌∙◌, ℕ, ◌<◌, ◌+◌, ◌≤◌, Bool, true, false, cond, List, [], ◌∷◌, length, refl, sym, ap, ap₂, subst, arith}
+-- How long blocks are in which all items are.
+use Rattle.std.proofs.Common.{◌≡◌, ◌∙◌, ℕ, ◌<◌, ◌+◌, ◌≤◌, Bool, true, false, cond, List, [], ◌∷◌, length, sym, ap, arith}
 use Rattle.std.proofs.lemmas.Bool.Decides.{nat_tests}
-use Rattle.std.specs.Global.{Global}
 use Rattle.std.specs.List.{list_all}
-use Rattle.std.specs.Prelude.{◌&&◌, Option, Some, None, IfSome, Result, Ok, Err, OnOk, OnErr, max, nat_le, not}
-use Rattle.fit_record.specs.declared.environment.Defined.{Defined}
-use Rattle.fit_record.specs.declared.learn.Description.{Description}
-use Rattle.fit_record.specs.declared.message.Record.{Record}
-use Rattle.fit_record.specs.declared.message.Record.TheVariants.{Values as Data}
-use Rattle.fit_record.specs.declared.message.Values.{Values}
-use Rattle.fit_record.specs.Environment.{Environment, defined_at, describe}
+use Rattle.std.specs.Prelude.{◌&&◌, Option, Some, None, max, nat_le, not}
 use Rattle.fit_record.specs.Faults.{or_else}
-use Rattle.fit_profile.specs.Looks.{known}
 use Rattle.fit_from_messages.specs.Alone.{why_no_lone_front, why_no_message_at}
 use Rattle.fit_from_messages.specs.Parts.{slot_stands}
 use Rattle.fit_from_messages.specs.Slots.{slot_size}
 use Rattle.fit_from_messages.specs.declared.fault.BlockReason.{BlockReason}
 use Rattle.fit_from_messages.specs.declared.fault.BlockReason.TheVariants.{Items}
 use Rattle.fit_from_messages.specs.declared.slot.Slot.{Slot}
-use Rattle.fit_writer.specs.Reading.{Form}
-use Rattle.fit_writer.specs.Written.{Current, SaysSame}
-use Rattle.fit_writer.specs.declared.file.OpenFile.{OpenFile}
-use Rattle.fit_writer.specs.declared.refusal.Refusal.{Refusal}
-use Rattle.fit_writer.specs.inner.Found.{IsOwnPlace, least_length}
-use Rattle.fit_writer.specs.inner.OpenFiles.{current_of, current_with}
-
--- ---- how long blocks are
+use Rattle.fit_writer.specs.inner.Found.{least_length}
 
 both_within : (a b n : ℕ) → nat_le (max a b) n ≡ (nat_le a n && nat_le b n)
 both_within a b n = grind (arith, nat_tests)
@@ -70,47 +55,3 @@ pub items_reason : (block : List ℕ) (slots : List Slot) (first : Option BlockR
     → least ≡ least_length slots → length block < least → Some Items ≡ why_no_message_at block slots
 items_reason block slots first least front none is short =
     sym (reason_is block slots first false front none (items_miss block slots least is short))
-
--- ---- where messages are read so
-
--- a data message changes no definition
-same_place : (e : Environment Global) (o : Option Description) (local : ℕ) → defined_at (describe e o) local ≡ defined_at e local
-same_place e None local = refl
-same_place e (Some d) local = refl
-
-says_still : (s : List (Record Global)) (v : Values Global) (local : ℕ) (f : Form) (p : Defined Global) → SaysSame s local f p
-    → SaysSame (Data v ∷ s) local f p
-says_still s v local f p says = record {
-  defined = same_place (known s) _ local ∙ says.defined;
-  global = says.global;
-  fields = says.fields;
-  dev = says.dev;
-  codes = says.codes;
-  namings = says.namings;
-}
-
-said_before : (s : List (Record Global)) (v : Values Global) (local : ℕ) (f : Form) (p : Defined Global) → SaysSame (Data v ∷ s) local f p
-    → SaysSame s local f p
-said_before s v local f p says = record {
-  defined = sym (same_place (known s) _ local) ∙ says.defined;
-  global = says.global;
-  fields = says.fields;
-  dev = says.dev;
-  codes = says.codes;
-  namings = says.namings;
-}
-
-pub own_still : (s : List (Record Global)) (v : Values Global) (f : Form) (local : ℕ) → IsOwnPlace s f local → IsOwnPlace (Data v ∷ s) f local
-own_still s v f local is = record {
-  few = is.few;
-  same = (is.same.0, says_still s v local f is.same.0 is.same.1);
-  own = λ p says. is.own p (said_before s v f.definition.local f p says);
-}
-
--- whether the message was put or not
-pub own_after : (old new : OpenFile) (v : Values Global) (f : Form) (local : ℕ) (r : Result (Unit {0}) Refusal) → IsOwnPlace old.stream f local
-    → OnOk r (current_of new ≡ current_with old (Data v ∷ old.stream)) → OnErr r (current_of new ≡ current_of old) → IsOwnPlace new.stream f local
-own_after old new v f local (Ok x) is ok err =
-    subst (λ (s : List (Record Global)). IsOwnPlace s f local) (sym (ap (λ (c : Current). c.records) ok)) (own_still old.stream v f local is)
-own_after old new v f local (Err why) is ok err =
-    subst (λ (s : List (Record Global)). IsOwnPlace s f local) (sym (ap (λ (c : Current). c.records) err)) is
