@@ -1,6 +1,9 @@
 pub mod Reading
+pub mod Placed
+pub mod Describing
 pub mod Written
 pub mod Amounts
+pub mod Descriptions
 pub mod Runs
 pub mod Finished
 pub mod Laws

@@ -2,10 +2,13 @@
 pub mod Files
 pub mod Forms
 pub mod Told
+pub mod Indices
 pub mod OpenFiles
 pub mod Places
 pub mod Spelled
+pub mod Plain
 pub mod Puts
 pub mod Found
+pub mod Describing
 pub mod Runs
 pub mod Kept

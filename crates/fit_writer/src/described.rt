@@ -14,7 +14,7 @@ use fit_profile::Stream;
 use fit_record::DevDef;
 
 /// Whether a developer field that is defined now gets the base type, the name and the unit that its code and its entry say.
-fn is_described(stream: &Stream, field: DevDef, code: u8, entry: &[u8]) -> bool
+pub(crate) fn is_described(stream: &Stream, field: DevDef, code: u8, entry: &[u8]) -> bool
     requires { 32 ≤ length entry.now }
     ensures yes { result ≡ true
         → IsDescribed stream.now field code (entry_naming entry.now) }

@@ -23,6 +23,7 @@ use crate::amounts::NOTHING;
 use crate::chain::Chain;
 use crate::data::{add_message, add_record, has_room};
 use crate::forms::with_local;
+use crate::indices::note_index;
 use crate::places::Turns;
 use fit_base::Order;
 use fit_encode::spell;
@@ -42,6 +43,8 @@ pub(crate) struct OpenFile {
     /// What it would be told of the last message.
     pub told: Told,
     pub turns: Turns,
+    /// The developer data indices that messages say.
+    pub indices: [bool; 256],
     /// Where the bytes of a definition message and of a message are made.
     pub defining: Vec<u8>,
     pub message: Vec<u8>,
@@ -53,6 +56,7 @@ impl Drop for OpenFile {
         let OpenFile {
             message: _message,
             defining: _defining,
+            indices: _,
             turns: _,
             told: _,
             stream: _stream,
@@ -93,6 +97,7 @@ impl OpenFile {
             stream: Stream::new(alloc),
             told: NOTHING,
             turns: Turns::new(),
+            indices: [false; 256],
             defining: Vec::new(alloc),
             message: Vec::new(alloc),
         }
@@ -109,6 +114,7 @@ impl OpenFile {
         self.stream.begin_file();
         self.told = NOTHING;
         self.turns = Turns::new();
+        self.indices = [false; 256];
     }
 
     /// Puts the file after others. Out of memory, nothing changes.
@@ -177,6 +183,7 @@ impl OpenFile {
         let told = add_message(&mut self.data, &mut self.stream, bytes)?;
         self.told = told;
         self.turns.note(front.local);
+        note_index(&mut self.indices, lone, block);
         Ok(())
     }
 
@@ -215,6 +222,7 @@ impl OpenFile {
         let told = add_message(&mut self.data, &mut self.stream, bytes)?;
         self.told = told;
         self.turns.note(front.local);
+        note_index(&mut self.indices, lone, block);
         Ok(())
     }
 }

@@ -5,7 +5,7 @@ ghost use Rattle.fit_profile.specs.Described.{namings_at};
 ghost use Rattle.fit_from_messages.specs.Parts as parts;
 ghost use Rattle.fit_from_messages.specs.Parts.{entries_of, entry_stands, number_read};
 ghost use Rattle.fit_writer.specs.Reading.{entry_naming, text_in};
-ghost use Rattle.fit_writer.specs.inner.Forms.{AreTexts, HasNaming};
+ghost use Rattle.fit_writer.specs.inner.Forms.{AreTexts, HasNaming, some_text};
 
 use fit_from_messages::{short_at, split_entry, text_length};
 use fit_profile::Stream;
@@ -19,6 +19,27 @@ fn from_place(place: usize, entry: &[u8]) -> &[u8]
     }
     let (_, rest) = entry.split_at(place);
     rest
+}
+
+/// The text that begins at a place of an entry, of no bytes where there is none.
+fn text_at(place: usize, entry: &[u8]) -> &[u8]
+    ensures { some_text result.now ≡ text_in place entry.now }
+{
+    let rest = from_place(place, entry);
+    let (text, _) = rest.split_at(text_length(rest));
+    text
+}
+
+/// The name and the unit that an entry says, of no bytes where there is none.
+pub(crate) fn entry_texts(entry: &[u8]) -> (&[u8], &[u8])
+    requires { 32 ≤ length entry.now }
+    ensures name { some_text result.0.now ≡ (entry_naming entry.now).name }
+    ensures unit { some_text result.1.now ≡ (entry_naming entry.now).unit }
+{
+    (
+        text_at(32, entry),
+        text_at(short_at(2, entry) as usize, entry),
+    )
 }
 
 /// Whether a known text is the one that begins at a place of an entry, where one of no bytes is none.

@@ -10,14 +10,13 @@ ghost use Rattle.fit_writer.specs.inner.Found.{IsOwnPlace};
 ghost use Rattle.fit_writer.specs.inner.OpenFiles.{IsGoodOpenFile, IsHalfPut, current_of};
 ghost use Rattle.fit_writer.specs.inner.Places.{IsLone, form_of};
 ghost use Rattle.fit_writer.specs.inner.Told.{latest_amounts};
-ghost use Rattle.fit_writer.specs.inner.Puts.{IsChosen, IsHalfPutInto, IsKeptOffset, IsPutInto, IsToldIn, IsUnchosen, IsRefusedPut, IsUnplaced, limit_of};
+ghost use Rattle.fit_writer.specs.inner.Puts.{IsChosen, IsHalfPutInto, IsKeptOffset, IsPutInto, IsToldIn, IsUnchosen, IsRefusedPut, IsUnplaced};
 
 use crate::amounts::is_told;
-use crate::described::would_say_same;
 use crate::file::OpenFile;
 use crate::forms::dated;
 use crate::found::own_place;
-use crate::places::{find_same, free_place};
+use crate::placing::{limit_of, put_placed};
 use crate::times::{header_time_in, own_time};
 use crate::{Put, Refusal};
 use fit_from_messages::{BlockReason, LoneDefinition, MessageFront, is_lone_message, slots_stand};
@@ -76,13 +75,6 @@ fn needed<'a>(
     Ok(Some(with_time))
 }
 
-/// How many local message types a record header can name: 4 with a time offset, else 16.
-fn limit_of(offset: Option<u8>) -> u8
-    ensures { result ≡ limit_of offset }
-{
-    if offset.is_some() { 4 } else { 16 }
-}
-
 /// Puts a message in this form and with this time offset.
 fn put_needed(
     alloc: Global,
@@ -101,18 +93,7 @@ fn put_needed(
     ensures refused { IfErr result
         (IsUnplaced file.old.stream (form_of lone.now) block.now offset) }
 {
-    let limit = limit_of(offset);
-    match find_same(&file.stream, lone, limit) {
-        Some(local) => file.put_known(MessageFront { local, offset }, lone, block),
-        None => {
-            if !would_say_same(&file.stream, lone) {
-                return Err(Refusal::Described);
-            }
-            let own = lone.definition.local;
-            let local = free_place(&file.stream, &file.turns, own, limit);
-            file.put_both(alloc, MessageFront { local, offset }, lone, block)
-        }
-    }
+    put_placed(alloc, file, lone, offset, block)
 }
 
 /// Puts a message in its own form and with this time offset: at a local message type that is known to be read so, where its header can name

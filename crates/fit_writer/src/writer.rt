@@ -6,11 +6,13 @@ ghost use Rattle.fit_from_messages.specs.Parts.{definition_in, header_in};
 ghost use Rattle.fit_writer.specs.Amounts.{IsToldAmounts};
 ghost use Rattle.fit_writer.specs.Reading.{form_in};
 ghost use Rattle.fit_writer.specs.Written.{BeginsFile, PutsDefinition, EndsFile, IsDefinitionRefusal, IsHeaderRefusal, IsMessageRefusal, KeepsAll, PutsMessage, file_count, nothing_written};
+ghost use Rattle.fit_writer.specs.Descriptions.{IsDescriptionRefusal, KeepsSome, PutsDescriptions};
 ghost use Rattle.fit_writer.specs.Runs.{PutsMessages, StopsRun};
 ghost use Rattle.fit_writer.specs.Finished.{IsFinished, IsNotFinished};
 
 use crate::amounts::has_amounts;
 use crate::chain::Chain;
+use crate::describing::describe;
 use crate::file::OpenFile;
 use crate::kept::{Kept, barred};
 use crate::put::put_told;
@@ -92,6 +94,31 @@ impl MessageWriter {
         }
         match lone_definition(self.alloc, block) {
             Ok(lone) => self.file.put_definition(lone.definition),
+            Err(Misfit::Block(reason)) => Err(Refusal::Block(reason)),
+            Err(Misfit::NoMemory) => Err(Refusal::NoMemory),
+        }
+    }
+
+    /// Describes the developer fields of a definition as its block says, so that a definition message that came now would be read as it:
+    /// of each that isn't described so a message `field_description` is put, and before it a message `developer_data_id` where the file
+    /// has none of its index. They have no time, and get the local message types 15 and 14 where these are free.
+    ///
+    /// `Described` where no such messages make it so: a developer field has no description in the block, and another one in the file; a name
+    /// or a unit can't be shown as text, or is longer than 254 bytes; or two of one index and number differ. Then nothing has changed.
+    /// Where there is no more room or memory, the first fields may have been described.
+    pub fn describe(&mut self, definition: &[u8]) -> Result<(), Refusal>
+        ensures described { OnOk result
+            (PutsDescriptions self.old self.new (form_in definition.now)) }
+        ensures refused { IfErr result
+            (IsDescriptionRefusal self.old.current definition.now) }
+        ensures unchanged { IfErr result
+            (KeepsSome self.old self.new (form_in definition.now)) }
+    {
+        if !self.is_open {
+            return Err(Refusal::NoFile);
+        }
+        match lone_definition(self.alloc, definition) {
+            Ok(lone) => describe(self.alloc, &mut self.file, &lone),
             Err(Misfit::Block(reason)) => Err(Refusal::Block(reason)),
             Err(Misfit::NoMemory) => Err(Refusal::NoMemory),
         }

@@ -34,6 +34,18 @@ const NOT_DESCRIBED: [u8; 36] = *b"\x0E \0\0\x14\0\0\0.FIT\x9Cz\
     \x02\0\0\0?-\x01\
     \x99\xFE";
 
+/// No record.
+const NOTHING: [u8; 16] = *b"\x0E \0\0\0\0\0\0.FIT\x9C\x85\0\0";
+
+/// The two developer fields described, in the order of the third definition: of `lean` and of `left`, after that of their index.
+const DESCRIBED: [u8; 70] = *b"\x0E \0\06\0\0\0.FIT\x1F\xBB\
+    N\0\0\xCF\0\x01\x03\x01\x02\
+    \x0E\0\
+    O\0\0\xCE\0\x05\0\x01\x02\x01\x01\x02\x02\x01\x02\x03\x05\x07\x08\x02\x07\
+    \x0F\0\x01\x88lean\0g\0\
+    \x0F\0\0\x84left\0W\0\
+    9\x8F";
+
 /// The blocks of `two_fields` with these bytes at these places.
 fn changed(rt: &impl Abort, alloc: Global, changes: &[(usize, u8)]) -> Vec<u8> {
     let mut blocks = blocks_of(rt, alloc, two_fields().bytes);
@@ -83,6 +95,35 @@ fn copied_with_no_definition_put(rt: HostRuntime) {
     begin(&rt, &mut writer, blocks.as_slice());
     puts(&rt, &mut writer, blocks.as_slice(), 5);
     writes(&rt, &mut writer, two_fields().bytes);
+}
+
+#[test]
+fn described_by_themselves(rt: HostRuntime) {
+    let blocks = changed(&rt, rt.alloc(), &[]);
+    let third = between(blocks.as_slice(), 1032, 1176);
+    let mut writer = MessageWriter::new(rt.alloc());
+    equal(&rt, &writer.describe(third), &Err(Refusal::NoFile));
+    begin(&rt, &mut writer, blocks.as_slice());
+    equal(&rt, &writer.describe(third), &Ok(()));
+    // Nothing more is put for what is described so, in the second definition too.
+    equal(&rt, &writer.describe(third), &Ok(()));
+    let second = between(blocks.as_slice(), 552, 824);
+    equal(&rt, &writer.describe(second), &Ok(()));
+    writes(&rt, &mut writer, &DESCRIBED);
+}
+
+#[test]
+fn not_to_be_described(rt: HostRuntime) {
+    // A name with a control character; a unit that isn't UTF-8; and both fields of one number, with two names.
+    let changes = [(1032 + 48 + 33, 7), (1032 + 48 + 40, 0xFF), (1032 + 96 + 4, 1)];
+    for change in changes {
+        let blocks = changed(&rt, rt.alloc(), &[change]);
+        let mut writer = MessageWriter::new(rt.alloc());
+        begin(&rt, &mut writer, blocks.as_slice());
+        let refused = writer.describe(between(blocks.as_slice(), 1032, 1176));
+        equal(&rt, &refused, &Err(Refusal::Described));
+        writes(&rt, &mut writer, &NOTHING);
+    }
 }
 
 #[test]

@@ -1,5 +1,5 @@
 -- What the code finds of a message before it is put. No public contract names these.
-use Rattle.std.specs.Prelude.{◌≡◌, ◌==◌, ◌*◌, ℕ, if◌then◌else◌, List, [], ◌∷◌, Option, None, option_and_then, slice_get}
+use Rattle.std.specs.Prelude.{◌≡◌, ◌==◌, ◌*◌, ℕ, if◌then◌else◌, List, [], ◌∷◌, Option, Some, None, option_and_then, slice_get}
 use Rattle.fit_base.specs.BaseTypes.{item_width}
 use Rattle.fit_record.specs.declared.definition.FieldDef.{FieldDef}
 use Rattle.fit_profile.specs.Described.{Naming}
@@ -21,6 +21,11 @@ abbrev pub FieldsFit : List FieldDef → List Slot → Type 0
 FieldsFit [] slots = Unit {0}
 FieldsFit (f ∷ fields) (s ∷ slots) = (s.width ≡ item_width f.code f.size) × (s.width * s.count ≡ f.size) × FieldsFit fields slots
 FieldsFit (f ∷ fields) [] = ⊥
+
+-- the text of some bytes, none where there are none
+abbrev pub some_text : List ℕ → Option (List ℕ)
+some_text [] = None
+some_text (b ∷ bytes) = Some (b ∷ bytes)
 
 -- A name and a unit are those of a naming.
 abbrev pub AreTexts : Option (List ℕ) → Option (List ℕ) → Naming → Type 0

@@ -11,6 +11,7 @@ use Rattle.fit_record.specs.Records.{AllFit, records_bytes}
 use Rattle.fit_writer.specs.Amounts.{amounts_in}
 use Rattle.fit_writer.specs.Written.{Current, PutsDefining, Writing, data_length}
 use Rattle.fit_writer.specs.declared.file.OpenFile.{OpenFile}
+use Rattle.fit_writer.specs.inner.Indices.{AreIndices}
 use Rattle.fit_writer.specs.declared.refusal.Refusal.{Refusal}
 use Rattle.fit_writer.specs.declared.refusal.Refusal.TheVariants.{NoMemory, TooLong}
 use Rattle.fit_writer.specs.inner.Told.{latest_amounts}
@@ -36,6 +37,7 @@ pub record IsGoodOpenFile (f : OpenFile) : Type 0 where
   pub form : FormFits f.header
   pub are_data : AreData f.data.items f.stream
   pub told : amounts_in f.told ≡ latest_amounts f.stream
+  pub are_indices : AreIndices f.indices f.stream
 
 pub record IsGoodWriter (files : List (FitFile Global)) (is_open : Bool) (file : OpenFile) : Type 0 where
   pub few : length files + (if is_open then 1 else 0) ≤ chain_limit

@@ -7,10 +7,15 @@ use Rattle.fit_record.specs.declared.message.Values.{Values}
 use Rattle.fit_record.specs.Records.{IsRecord, record_bytes}
 use Rattle.fit_profile.specs.Looks.{known}
 use Rattle.fit_writer.proofs.Grown.{grown_twice, too_long}
+use Rattle.fit_record.specs.Environment.{defined_by}
+use Rattle.fit_writer.proofs.IndexFacts.{put_indices}
+use Rattle.fit_writer.proofs.ReadThere.{says_own}
 use Rattle.fit_writer.proofs.LoneForms.{local_few, spelled_own}
 use Rattle.fit_writer.specs.Reading.{values_by}
 use Rattle.fit_writer.specs.Written.{with_local}
 use Rattle.fit_writer.specs.inner.OpenFiles.{AreData, current_with}
+use Rattle.fit_writer.specs.inner.Indices.{AreIndices}
+use Rattle.fit_writer.specs.inner.Told.{latest_amounts}
 use Rattle.fit_writer.specs.inner.Places.{form_of}
 use Rattle.fit_writer.proofs.file.OpenFile.put_both.Goals as goal
 use Rattle.fit_writer.proofs.file.OpenFile.put_both.Goals.{After-has_room}
@@ -57,3 +62,31 @@ returns-clause-ok c =
     let is = subst (λ (st : List (Record Global)). IsRecord (known st) (Data (message a)) c.split_at.result.0.now) (sym added) (is_record a) in
     ap (λ (rs : List (Record Global)). current_with c.args.self.now rs)
     (c.in_ok-told.ensures.ok (message a) is ∙ ap (λ (st : List (Record Global)). let r : Record Global = Data (message a) in r ∷ st) added)
+
+pub returns-clause-good : goal.returns-clause-good
+returns-clause-good c =
+    let a = (goal.at.returns-clause-good c).After-has_room in
+    let s = c.args.self.now.stream in
+    let f = form_of c.args.lone.now in
+    let local = c.args.front.local in
+    let added = c.in_ok-add_record.ensures.ok ∙ ap (λ (d : MessageDef Global). let r : Record Global = Define d in r ∷ s) c.in_ok-with_local.ensures in
+    let is = subst (λ (st : List (Record Global)). IsRecord (known st) (Data (message a)) c.split_at.result.0.now) (sym added) (is_record a) in record {
+      form = c.requires.good.form;
+      are_data = c.add_message.ensures.are;
+      told = c.in_ok-told.ensures.told;
+      are_indices = put_indices c.args.self.now.indices c.note_index.new.indices (defines a) c.add_message.new.stream f c.args.block.now local
+          c.args.front.offset c.requires.good.are_indices
+          (defined_by (known s) (with_local f.definition local), says_own s f local (local_few local c.args.front.offset c.requires.front) c.requires.same)
+          c.note_index.ensures
+          (c.in_ok-told.ensures.ok (message a) is ∙ ap (λ (st : List (Record Global)). let r : Record Global = Data (message a) in r ∷ st) added);
+    }
+
+pub returns-in_err-told-clause-good : goal.returns-in_err-told-clause-good
+returns-in_err-told-clause-good c =
+    let s = c.args.self.now.stream in
+    let added = c.in_ok-add_record.ensures.ok ∙ ap (λ (d : MessageDef Global). let r : Record Global = Define d in r ∷ s) c.in_ok-with_local.ensures in record {
+      form = c.requires.good.form;
+      are_data = c.add_message.ensures.are;
+      told = c.requires.good.told ∙ ap latest_amounts (sym (c.in_err-told.ensures.err ∙ added));
+      are_indices = subst (AreIndices c.args.self.now.indices) (sym (c.in_err-told.ensures.err ∙ added)) c.requires.good.are_indices;
+    }

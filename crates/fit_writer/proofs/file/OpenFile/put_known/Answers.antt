@@ -7,6 +7,7 @@ use Rattle.fit_record.specs.Environment.{defined_at}
 use Rattle.fit_record.specs.Records.{IsRecord}
 use Rattle.fit_profile.specs.Looks.{known}
 use Rattle.fit_writer.proofs.Grown.{grown_length, too_long}
+use Rattle.fit_writer.proofs.IndexFacts.{put_indices}
 use Rattle.fit_writer.proofs.LoneForms.{same_order, spelled_there}
 use Rattle.fit_writer.specs.Reading.{values_by}
 use Rattle.fit_writer.specs.inner.OpenFiles.{AreData, current_with}
@@ -43,3 +44,14 @@ pub returns-clause-ok : goal.returns-clause-ok
 returns-clause-ok c =
     let a = (goal.at.returns-clause-ok c).After-has_room in
     ap (λ (rs : List (Record Global)). current_with c.args.self.now rs) (c.in_ok-told.ensures.ok (message a) (is_record a))
+
+pub returns-clause-good : goal.returns-clause-good
+returns-clause-good c =
+    let a = (goal.at.returns-clause-good c).After-has_room in record {
+      form = c.requires.good.form;
+      are_data = c.add_message.ensures.are;
+      told = c.in_ok-told.ensures.told;
+      are_indices = put_indices c.args.self.now.indices c.note_index.new.indices c.args.self.now.stream c.add_message.new.stream (form_of c.args.lone.now)
+          c.args.block.now c.args.front.local c.args.front.offset c.requires.good.are_indices c.requires.same c.note_index.ensures
+          (c.in_ok-told.ensures.ok (message a) (is_record a));
+    }

@@ -7,8 +7,8 @@ use Rattle.fit_writer.specs.Reading.{values_by}
 use Rattle.fit_writer.specs.Written.{with_local}
 use Rattle.fit_writer.specs.inner.Places.{form_of}
 use Rattle.fit_writer.specs.inner.Puts.{IsTold}
-use Rattle.fit_writer.proofs.put.put_needed.Goals as goal
-use Rattle.fit_writer.proofs.put.put_needed.Goals.{After-free_place-local, In-Some}
+use Rattle.fit_writer.proofs.placing.put_placed.Goals as goal
+use Rattle.fit_writer.proofs.placing.put_placed.Goals.{After-free_place-local, In-Some}
 
 pub put_known-requires-clause-front : goal.put_known-requires-clause-front
 put_known-requires-clause-front c =
