@@ -1,5 +1,6 @@
 use Rattle.std.proofs.Common.{◌≡◌, ◌⊎◌, ◌∷◌, [], inl, inr, refl, ap}
 use Rattle.std.proofs.lemmas.Result.{err_from_is_err_and}
+use Rattle.std.specs.Prelude.{None}
 use Rattle.fit_writer.proofs.HalfDescribed.{becomes_stream, err_added, half_from}
 use Rattle.fit_writer.specs.Describing.{AddsIndex, DescribesSome, description_reading, plain_reading}
 use Rattle.fit_writer.specs.Reading.{entry_naming}
@@ -18,6 +19,13 @@ returns-in_err-put_index-clause-err c =
       | inr adds ↦ inr (inl (c.requires.other, adds))
     ])
     c.in_err-put_index.ensures.err)
+
+pub returns-in_err-message-clause-err : goal.returns-in_err-message-clause-err
+returns-in_err-message-clause-err c =
+    let p = err_from_is_err_and c.from_residual-in_err-message.result c.from_residual-in_err-message.ensures.1 in
+    let mid = c.put_index.new.file in
+    let now = becomes_stream c.args.file.now mid (λ before after. AddsIndex before after c.args.x.now.field.index) c.in_ok-put_index.ensures.ok in
+    rw (p.1, p.2) (None, tt, (mid.stream, inr (inl (c.requires.other, now.0)), now.1))
 
 pub returns-clause-err : goal.returns-clause-err
 returns-clause-err c =
