@@ -25,7 +25,8 @@ use Rattle.fit_record.specs.declared.message.Record.{Record}
 use Rattle.fit_record.specs.declared.message.Record.TheVariants.{Values as Data}
 use Rattle.fit_record.specs.declared.message.Values.{Values}
 use Rattle.fit_record.specs.Environment.{defined_at, describe, description, dev_code, dev_key_cmp, first_items, only, only_byte}
-use Rattle.fit_profile.specs.Described.{Naming, before_closing_zeros, is_printable, naming, naming_by, naming_of, namings_at, printable_text, text_field, without_zeros}
+use Rattle.fit_profile.specs.Described.{Naming, before_closing_zeros, is_printable, naming, naming_by}
+use Rattle.fit_profile.specs.Described.{naming_of, namings_at, printable_text, text_field, without_zeros}
 use Rattle.fit_profile.specs.Looks.{first_field, known}
 use Rattle.fit_profile.specs.Times.{time}
 use Rattle.fit_writer.specs.Describing.{CanBeSaid, DevField, IsAdded, IsAlike, IsDescribedField, IsReadBack, description_reading, index_reading, text_fields}
@@ -220,25 +221,30 @@ key_of d = record { index = d.index; number = d.number }
 module _ (s : List (Record Global)) (v : Values Global) (p : Defined Global) (there : defined_at (known s) v.local ≡ Some p)
   where
     code_after : (x : DevDef) → dev_code (known (Data v ∷ s)) x ≡ dev_code (describe (known s) (description p.definition v)) x
-    code_after x = ap (λ (o : Option (Defined Global)). dev_code (describe (known s) (option_and_then (λ (q : Defined Global). description q.definition v) o)) x) there
+    code_after x = ap (λ (o : Option (Defined Global)). dev_code
+        (describe (known s) (option_and_then (λ (q : Defined Global). description q.definition v) o)) x) there
 
     naming_there : (index number : ℕ) → naming_of (Data v ∷ s) index number
         ≡ unwrap_or (option_and_then (λ (t : Description). if (t.key.index == index) && (t.key.number == number) then Some (naming p.definition v) else None)
         (description p.definition v)) (naming_of s index number)
     naming_there index number =
-        ap (λ (o : Option (Defined Global)). unwrap_or (option_and_then (λ (q : Defined Global). naming_by q.definition v index number) o) (naming_of s index number)) there
+        ap (λ (o : Option (Defined Global)). unwrap_or (option_and_then (λ (q : Defined Global). naming_by q.definition v index number) o)
+        (naming_of s index number)) there
 
     -- a message that describes nothing leaves all as it was
     pub stays_by : description p.definition v ≡ None → (x : DevField) → IsDescribedField s x → IsDescribedField (Data v ∷ s) x
     stays_by none x h = (
       code_after x.0 ∙ ap (λ (o : Option Description). dev_code (describe (known s) o) x.0) none ∙ h.0,
       naming_there x.0.index x.0.number
-          ∙ ap (λ (o : Option Description). unwrap_or (option_and_then (λ (t : Description). if (t.key.index == x.0.index) && (t.key.number == x.0.number) then Some (naming p.definition v) else None) o) (naming_of s x.0.index x.0.number)) none
+          ∙ ap (λ (o : Option Description). unwrap_or
+          (option_and_then (λ (t : Description). if (t.key.index == x.0.index) && (t.key.number == x.0.number) then Some (naming p.definition v) else None) o)
+          (naming_of s x.0.index x.0.number)) none
           ∙ h.1,
     )
 
     -- a description
-    module _ (d : DevDef) (code : ℕ) (n : Naming) (is : description p.definition v ≡ Some (record { key = key_of d; code = code })) (named : naming p.definition v ≡ n)
+    module _ (d : DevDef) (code : ℕ) (n : Naming) (is : description p.definition v ≡ Some (record { key = key_of d; code = code }))
+        (named : naming p.definition v ≡ n)
       where
         code_now : (x : DevDef) → dev_code (known (Data v ∷ s)) x
             ≡ unwrap_or (cond (same_key (key_of x) (key_of d)) (Some code) (lookup (is_at (dev_key_cmp (key_of x))) (known s).described)) 0x0D
@@ -250,7 +256,9 @@ module _ (s : List (Record Global)) (v : Values Global) (p : Defined Global) (th
             ≡ unwrap_or (cond ((d.index == index) && (d.number == number)) (Some n) None) (naming_of s index number)
         naming_now index number =
             naming_there index number
-            ∙ ap (λ (o : Option Description). unwrap_or (option_and_then (λ (t : Description). if (t.key.index == index) && (t.key.number == number) then Some (naming p.definition v) else None) o) (naming_of s index number)) is
+            ∙ ap (λ (o : Option Description). unwrap_or
+            (option_and_then (λ (t : Description). if (t.key.index == index) && (t.key.number == number) then Some (naming p.definition v) else None) o)
+            (naming_of s index number)) is
             ∙ ap (λ (m : Naming). unwrap_or (cond ((d.index == index) && (d.number == number)) (Some m) None) (naming_of s index number)) named
 
         pub said_now : (x : DevField) → d.index ≡ x.0.index → d.number ≡ x.0.number → (code, n) ≡ x.1 → IsDescribedField (Data v ∷ s) x

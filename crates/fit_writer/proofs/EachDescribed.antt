@@ -84,7 +84,8 @@ are_alike : (before xs : List DevField) → AllByRecursion (λ x. AllByRecursion
 are_alike before [] all = tt
 are_alike before (x ∷ xs) all = (
   (all_parts (IsAlike x) before (x ∷ xs) all.0).1.1,
-  are_alike (before ++ x ∷ []) xs (subst (λ (ys : List DevField). AllByRecursion (λ z. AllByRecursion (IsAlike z) ys) xs) (sym (append_assoc before (x ∷ []) xs)) all.1),
+  are_alike (before ++ x ∷ []) xs (subst (λ (ys : List DevField). AllByRecursion (λ z. AllByRecursion (IsAlike z) ys) xs)
+      (sym (append_assoc before (x ∷ []) xs)) all.1),
 )
 
 can_each : (s : List (Record Global)) (xs : List DevField) → AreDescribable s xs → CanBeDescribedEach s xs
@@ -100,7 +101,8 @@ pub described_all : (s t : List (Record Global)) (xs : List DevField) → AreDes
 described_all s t xs all does = all_described s t xs does (can_each s xs all) (alike_each s xs all)
 
 -- The next one is described, or can be.
-pub next_can : (s t : List (Record Global)) (all done rest : List DevField) (x : DevField) → AreDescribable s all → all ≡ done ++ x ∷ rest → DescribesEach s t done
+pub next_can : (s t : List (Record Global)) (all done rest : List DevField) (x : DevField) → AreDescribable s all → all ≡ done ++ x ∷ rest
+    → DescribesEach s t done
     → IsDescribedField t x ⊎ CanBeSaid x.1
 next_can s t all done rest x can is does =
     let these : AreDescribable s (done ++ x ∷ rest) = subst (AreDescribable s) is can in
@@ -122,7 +124,8 @@ next_can s t all done rest x can is does =
 
 -- ---- one after another
 
-pub each_more : (s t u : List (Record Global)) (xs : List DevField) (x : DevField) → DescribesEach s t xs → DescribesField t u x → DescribesEach s u (xs ++ x ∷ [])
+pub each_more : (s t u : List (Record Global)) (xs : List DevField) (x : DevField) → DescribesEach s t xs → DescribesField t u x → DescribesEach s u
+    (xs ++ x ∷ [])
 each_more s t u [] x same does = (u, subst (λ (rs : List (Record Global)). DescribesField rs u x) same does, refl)
 each_more s t u (y ∷ xs) x (mid, first, rest) does = (mid, first, each_more mid t u xs x rest does)
 
@@ -131,7 +134,8 @@ some_none s [] = refl
 some_none s (x ∷ xs) = inl refl
 
 -- some of the next after those that were described
-pub some_more : (s t u : List (Record Global)) (xs ys : List DevField) (x : DevField) → DescribesEach s t xs → DescribesSome t u (x ∷ []) → DescribesSome s u (xs ++ x ∷ ys)
+pub some_more : (s t u : List (Record Global)) (xs ys : List DevField) (x : DevField) → DescribesEach s t xs → DescribesSome t u (x ∷ [])
+    → DescribesSome s u (xs ++ x ∷ ys)
 some_more s t u [] ys x same some = go (subst (λ (rs : List (Record Global)). DescribesSome rs u (x ∷ [])) same some)
   where
     go : DescribesSome s u (x ∷ []) → DescribesSome s u (x ∷ ys)

@@ -16,7 +16,7 @@ use Rattle.fit_record.specs.declared.definition.DevDef.{DevDef}
 use Rattle.fit_writer.proofs.DescribedNow.{no_dev}
 use Rattle.fit_writer.specs.Describing.{DescribesEach, DescribesForm, DevField, dev_fields}
 use Rattle.fit_writer.specs.Reading.{entry_naming}
-use Rattle.fit_writer.specs.inner.Describing.{AreDescribable, IsListed, entry_fields, listed}
+use Rattle.fit_writer.specs.inner.Describing.{AreDescribable, IsListed, entry_fields, listed_fields}
 
 -- the one at a place
 abbrev pub listed_at : List DevDef → List ℕ → ℕ → List ℕ → DevField
@@ -62,7 +62,7 @@ module _ (d : LoneDefinition) (l : Listed) (lone : IsLone d) (fields : l.fields.
       many = ap length codes ∙ sym many;
     }
 
-    pub listed_is : listed l ≡ dev_fields (form_of d)
+    pub listed_is : listed_fields l ≡ dev_fields (form_of d)
     listed_is =
         ap₂ (λ (ds : List DevDef) (cs : List ℕ). entry_fields ds cs (entries_of (length l.fields.now) l.entries.now)) fields codes
         ∙ ap₂ (λ (n : ℕ) (bytes : List ℕ). entry_fields (dev_defs d.definition.dev) d.codes (entries_of n bytes)) many entries

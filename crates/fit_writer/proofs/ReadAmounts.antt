@@ -92,7 +92,8 @@ one_other (x ∷ read) [] n a b is other = absurd is
 pub none_told : (s : List (Record Global)) (has : Bool) → AreToldAmounts s s has [] 0
 none_told s has = ([], refl, sym (append-nil (amounts_read s)), tt)
 
-pub told_few : (before after : List (Record Global)) (has : Bool) (blocks : List (List ℕ)) (n : ℕ) → AreToldAmounts before after has blocks n → n ≤ length blocks
+pub told_few : (before after : List (Record Global)) (has : Bool) (blocks : List (List ℕ)) (n : ℕ) → AreToldAmounts before after has blocks n
+    → n ≤ length blocks
 told_few before after has blocks n (read, long, is, same) = omega (arith, long, first_few read (map (amounts_by has) blocks) n same)
 
 more_same : (read said : List Amounts) (n count : ℕ) (a b : Amounts) (t is_told : Bool) → (n == count) ≡ t → count ≡ length read

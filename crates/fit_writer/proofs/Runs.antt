@@ -110,7 +110,8 @@ stop_written files old new definition bytes stop (inr (stands, h)) = inr (record
 
 pub ok_run : (w : Writing) (files : List (FitFile Global)) (is_open : Bool) (old new : OpenFile) (definition bytes : List ℕ) (r : Result Run RunRefusal)
     → writing_of files is_open old ≡ w → is_open ≡ true → OnOk r (why_no_lone_definition definition ≡ None)
-    → IfOk r (λ run. HasRunInto old new (form_in definition) (has_amounts definition) bytes run.count run.accumulated []) → IfOk r (PutsMessages w (writing_of files is_open new) definition bytes)
+    → IfOk r (λ run. HasRunInto old new (form_in definition) (has_amounts definition) bytes run.count run.accumulated [])
+    → IfOk r (PutsMessages w (writing_of files is_open new) definition bytes)
 ok_run w files is_open old new definition bytes (Err stop) view is stands h = tt
 ok_run w files is_open old new definition bytes (Ok run) view is stands h =
     subst (λ (b : Bool). PutsMessages w (writing_of files b new) definition bytes run) (sym is)

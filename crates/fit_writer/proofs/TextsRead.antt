@@ -26,8 +26,11 @@ some_length n = grind (arith, nat_tests)
 
 pub reads_back : (text : List ℕ) → length text < 255 → list_all is_printable text ≡ true → IsUtf8 text → IsReadBack (some_text text)
 reads_back [] short shown valid = tt
-reads_back (b ∷ text) short shown valid =
-    (all_three (not (length (b ∷ text) == 0)) (list_all is_printable (b ∷ text)) (is_utf8 (b ∷ text)) (b ∷ text) (some_length (length text)) shown (is_utf8-from_IsUtf8 (b ∷ text) valid), short)
+reads_back (b ∷ text) short shown valid = (
+  all_three (not (length (b ∷ text) == 0)) (list_all is_printable (b ∷ text)) (is_utf8 (b ∷ text)) (b ∷ text) (some_length (length text)) shown
+      (is_utf8-from_IsUtf8 (b ∷ text) valid),
+  short,
+)
 
 pub too_long_text : (text : List ℕ) → 255 ≤ length text → IsReadBack (some_text text) → ⊥
 too_long_text [] long back = absurd (omega (arith, long))

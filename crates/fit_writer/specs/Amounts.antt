@@ -1,5 +1,6 @@
 -- Speed, distance, cycles and power: what a reader is told of them, and what a message's block says (`docs/BLOCKS.md`).
-use Rattle.std.specs.Prelude.{◌≡◌, ◌&&◌, ◌↔◌, Bool, nat_le, if◌then◌else◌, ℕ, zero, suc, List, [], ◌∷◌, ◌++◌, length, map, Option, Some, None, IsSomeAnd, IsTrue}
+use Rattle.std.specs.Prelude.{◌≡◌, ◌&&◌, ◌↔◌, Bool, nat_le, if◌then◌else◌, ℕ, zero, suc, List}
+use Rattle.std.specs.Prelude.{[], ◌∷◌, ◌++◌, length, map, Option, Some, None, IsSomeAnd, IsTrue}
 use Rattle.std.specs.Global.{Global}
 use Rattle.fit_record.specs.declared.message.Record.{Record}
 use Rattle.fit_record.specs.declared.message.Record.TheVariants.{Define, Values as Data}
@@ -71,4 +72,5 @@ SameFirst _ _ _ = ⊥
 -- A reader is told of the messages of these blocks after others, and of that many first ones the amounts that their blocks say.
 abbrev pub AreToldAmounts : List (Record Global) → List (Record Global) → Bool → List (List ℕ) → ℕ → Type 0
 AreToldAmounts before after has blocks accumulated =
-    (read : List Amounts) × (length read ≡ length blocks) × (amounts_read after ≡ amounts_read before ++ read) × SameFirst read (map (amounts_by has) blocks) accumulated
+    (read : List Amounts) × (length read ≡ length blocks) × (amounts_read after ≡ amounts_read before ++ read) × SameFirst read
+    (map (amounts_by has) blocks) accumulated

@@ -4,7 +4,7 @@ ghost use Rattle.std.specs.List.{AllByRecursion, list_all};
 ghost use Rattle.fit_profile.specs.Described.{is_printable};
 ghost use Rattle.fit_writer.specs.Describing.{AddsIndex, CanBeSaid, DescribesEach, DescribesField, DescribesForm, DescribesSome, IsAlike, IsDescribedField, IsReadBack, description_reading};
 ghost use Rattle.fit_writer.specs.Reading.{entry_naming};
-ghost use Rattle.fit_writer.specs.inner.Describing.{AreDescribable, Becomes, IsHalfDescribed, IsListed, IsUndescribed, listed, wanted};
+ghost use Rattle.fit_writer.specs.inner.Describing.{AreDescribable, Becomes, IsHalfDescribed, IsListed, IsUndescribed, listed_fields, wanted};
 ghost use Rattle.fit_writer.specs.inner.Forms.{some_text};
 ghost use Rattle.fit_writer.specs.inner.OpenFiles.{IsGoodOpenFile};
 ghost use Rattle.fit_writer.specs.inner.Places.{IsLone, form_of};
@@ -103,9 +103,11 @@ fn is_alike(x: &Wanted<'_>, y: &Wanted<'_>) -> bool
 /// Whether a developer field is so to each of these.
 fn is_alike_to_all(x: &Wanted<'_>, all: &Listed<'_>) -> bool
     requires first { 32 ≤ length x.now.said.now }
-    requires listed { IsListed all.now }
-    ensures yes { result ≡ true → AllByRecursion (IsAlike (wanted x.now)) (listed all.now) }
-    ensures no { result ≡ false → AllByRecursion (IsAlike (wanted x.now)) (listed all.now) → ⊥ }
+    requires listed_fields { IsListed all.now }
+    ensures yes { result ≡ true
+        → AllByRecursion (IsAlike (wanted x.now)) (listed_fields all.now) }
+    ensures no { result ≡ false
+        → AllByRecursion (IsAlike (wanted x.now)) (listed_fields all.now) → ⊥ }
 {
     let mut rest = all.entries;
     for place in 0..all.fields.len() {
@@ -126,11 +128,13 @@ fn is_alike_to_all(x: &Wanted<'_>, all: &Listed<'_>) -> bool
 /// Whether a developer field is described or can be, and is alike to all of its index and number.
 fn is_describable(stream: &Stream, x: &Wanted<'_>, all: &Listed<'_>) -> bool
     requires first { 32 ≤ length x.now.said.now }
-    requires listed { IsListed all.now }
+    requires listed_fields { IsListed all.now }
     ensures yes { result ≡ true → (IsDescribedField stream.now (wanted x.now)
-        ⊎ CanBeSaid (wanted x.now).1) × AllByRecursion (IsAlike (wanted x.now)) (listed all.now) }
+        ⊎ CanBeSaid (wanted x.now).1) × AllByRecursion (IsAlike (wanted x.now))
+        (listed_fields all.now) }
     ensures no { result ≡ false → (IsDescribedField stream.now (wanted x.now)
-        ⊎ CanBeSaid (wanted x.now).1) × AllByRecursion (IsAlike (wanted x.now)) (listed all.now) → ⊥ }
+        ⊎ CanBeSaid (wanted x.now).1) × AllByRecursion (IsAlike (wanted x.now))
+        (listed_fields all.now) → ⊥ }
 {
     if !is_described(stream, x.field, x.code, x.said) && !can_be_said(x.code, x.said) {
         return false;
@@ -140,9 +144,9 @@ fn is_describable(stream: &Stream, x: &Wanted<'_>, all: &Listed<'_>) -> bool
 
 /// Whether all are.
 fn are_describable(stream: &Stream, all: &Listed<'_>) -> bool
-    requires listed { IsListed all.now }
-    ensures yes { result ≡ true → AreDescribable stream.now (listed all.now) }
-    ensures no { result ≡ false → AreDescribable stream.now (listed all.now) → ⊥ }
+    requires listed_fields { IsListed all.now }
+    ensures yes { result ≡ true → AreDescribable stream.now (listed_fields all.now) }
+    ensures no { result ≡ false → AreDescribable stream.now (listed_fields all.now) → ⊥ }
 {
     let mut rest = all.entries;
     for place in 0..all.fields.len() {
@@ -229,13 +233,13 @@ fn describe_field(alloc: Global, file: &mut OpenFile, x: &Wanted<'_>) -> Result<
 /// Describes developer fields, one after another.
 fn describe_each(alloc: Global, file: &mut OpenFile, all: &Listed<'_>) -> Result<(), Refusal>
     requires good { IsGoodOpenFile file.old }
-    requires listed { IsListed all.now }
-    requires can { AreDescribable file.old.stream (listed all.now) }
+    requires listed_fields { IsListed all.now }
+    requires can { AreDescribable file.old.stream (listed_fields all.now) }
     ensures ok { OnOk result (Becomes file.old file.new
-        (λ before after. DescribesEach before after (listed all.now))) }
+        (λ before after. DescribesEach before after (listed_fields all.now))) }
     ensures good { IsGoodOpenFile file.new }
     ensures err { IfErr result (IsHalfDescribed file.old file.new
-        (λ before after. DescribesSome before after (listed all.now))) }
+        (λ before after. DescribesSome before after (listed_fields all.now))) }
 {
     let mut rest = all.entries;
     for place in 0..all.fields.len() {

@@ -1,7 +1,7 @@
 //! Messages of one definition, put one after another.
 ghost use Rattle.std.specs.Prelude.{◌≡◌, ◌<◌, ◌++◌, [], ℕ, IfErr, IfOk, List, length};
 ghost use Rattle.fit_from_messages.specs.SaysChain.{IsBlock};
-ghost use Rattle.fit_writer.specs.inner.Found.{IsFound};
+ghost use Rattle.fit_writer.specs.inner.Found.{IsFoundOnce};
 ghost use Rattle.fit_writer.specs.inner.OpenFiles.{IsGoodOpenFile};
 ghost use Rattle.fit_writer.specs.inner.Places.{IsLone, form_of};
 ghost use Rattle.fit_writer.specs.inner.Puts.{IsPutInto};
@@ -25,7 +25,7 @@ fn put_first<'a>(
 ) -> Result<(&'a [u8], &'a [u8]), Refusal>
     requires good { IsGoodOpenFile file.old }
     requires lone { IsLone lone.now }
-    requires found { IsFound file.old.stream (form_of lone.now) found.old }
+    requires found { IsFoundOnce file.old.stream (form_of lone.now) found.old }
     requires some { 0 < length rest.now }
     ensures block { IfOk result (λ p. IsBlock p.0.now) }
     ensures begins { IfOk result (λ p. rest.now ≡ p.0.now ++ p.1.now) }
@@ -33,7 +33,7 @@ fn put_first<'a>(
     ensures shorter { IfOk result (λ p. length p.1.now < length rest.now) }
     ensures same { found.new.has ≡ found.old.has }
     ensures good { IsGoodOpenFile file.new }
-    ensures found { IsFound file.new.stream (form_of lone.now) found.new }
+    ensures found { IsFoundOnce file.new.stream (form_of lone.now) found.new }
     ensures err { IfErr result
         (IsFirstRefused file.old file.new (form_of lone.now) rest.now) }
 {
@@ -59,7 +59,7 @@ pub(crate) fn put_run(
 ) -> Result<Run, RunRefusal>
     requires good { IsGoodOpenFile file.old }
     requires lone { IsLone lone.now }
-    requires found { IsFound file.old.stream (form_of lone.now) first }
+    requires found { IsFoundOnce file.old.stream (form_of lone.now) first }
     ensures ok { IfOk result (λ run. HasRunInto file.old file.new (form_of lone.now)
         first.has blocks.now run.count run.accumulated []) }
     ensures good { IsGoodOpenFile file.new }

@@ -133,37 +133,21 @@ fn run(rt: &impl Abort, alloc: Global, blocks: &[u8]) -> Result<Run, RunRefusal>
     begun(rt, alloc).put_messages(between(known.as_slice(), 248, 424), blocks)
 }
 
+/// Compares how many messages a run has put, and how many of them are told their amounts.
+fn has_put(rt: &impl Abort, done: &Result<Run, RunRefusal>, count: u64, accumulated: u64) {
+    equal(rt, done, &Ok(Run { count, accumulated }));
+}
+
 #[test]
 fn a_run_counts_the_first_ones(rt: HostRuntime) -> Result<(), AllocError> {
     let alloc = rt.alloc();
     let blocks = three(&rt, alloc)?;
     let done = run(&rt, alloc, blocks.as_slice());
-    equal(
-        &rt,
-        &done,
-        &Ok(Run {
-            count: 3,
-            accumulated: 1,
-        }),
-    );
+    has_put(&rt, &done, 3, 1);
     let done = run(&rt, alloc, between(blocks.as_slice(), 88, 264));
-    equal(
-        &rt,
-        &done,
-        &Ok(Run {
-            count: 2,
-            accumulated: 2,
-        }),
-    );
+    has_put(&rt, &done, 2, 2);
     let done = run(&rt, alloc, &[]);
-    equal(
-        &rt,
-        &done,
-        &Ok(Run {
-            count: 0,
-            accumulated: 0,
-        }),
-    );
+    has_put(&rt, &done, 0, 0);
     // The last block is cut.
     let stop = RunRefusal {
         count: 2,

@@ -115,7 +115,11 @@ fn described_by_themselves(rt: HostRuntime) {
 #[test]
 fn not_to_be_described(rt: HostRuntime) {
     // A name with a control character; a unit that isn't UTF-8; and both fields of one number, with two names.
-    let changes = [(1032 + 48 + 33, 7), (1032 + 48 + 40, 0xFF), (1032 + 96 + 4, 1)];
+    let changes = [
+        (1032 + 48 + 33, 7),
+        (1032 + 48 + 40, 0xFF),
+        (1032 + 96 + 4, 1),
+    ];
     for change in changes {
         let blocks = changed(&rt, rt.alloc(), &[change]);
         let mut writer = MessageWriter::new(rt.alloc());

@@ -25,9 +25,9 @@ Becomes old new P = (after : List (Record Global)) × P old.stream after × (cur
 abbrev pub entry_fields : List DevDef → List ℕ → List (List ℕ) → List DevField
 entry_fields devs codes entries = zip devs (zip codes (map entry_naming entries))
 
--- those that are listed, and what one of them is to have
-abbrev pub listed : Listed → List DevField
-listed l = entry_fields l.fields.now l.codes.now (entries_of (length l.fields.now) l.entries.now)
+-- those that are listed_fields, and what one of them is to have
+abbrev pub listed_fields : Listed → List DevField
+listed_fields l = entry_fields l.fields.now l.codes.now (entries_of (length l.fields.now) l.entries.now)
 
 abbrev pub wanted : Wanted → DevField
 wanted w = (w.field, (w.code, entry_naming w.said.now))

@@ -21,6 +21,6 @@ pub record IsOwnPlace (before : List (Record Global)) (f : Form) (local : ℕ) :
   pub own : (p : Defined Global) → SaysSame before f.definition.local f p → local ≡ f.definition.local
 
 -- What was found holds of messages of this form after these records.
-pub record IsFound (before : List (Record Global)) (f : Form) (found : Found) : Type 0 where
+pub record IsFoundOnce (before : List (Record Global)) (f : Form) (found : Found) : Type 0 where
   pub length : found.length ≡ least_length f.slots
   pub place : IfSome found.place (IsOwnPlace before f)

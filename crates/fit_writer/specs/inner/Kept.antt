@@ -35,5 +35,6 @@ IsGoodKept block dev parts = IfSome parts (λ p. ArePartsOf p dev block)
 -- A run stopped before its first block, or at one.
 abbrev pub IsRunOfBlock : OpenFile → OpenFile → List ℕ → List ℕ → RunRefusal → Type 0
 IsRunOfBlock old new definition bytes stop =
-    ((current_of new ≡ current_of old) × (stop.count ≡ 0) × (stop.accumulated ≡ 0) × (stop.place ≡ 0) × IsRunBarred (Some (current_of old)) definition stop.refusal)
+    ((current_of new ≡ current_of old) × (stop.count ≡ 0) × (stop.accumulated ≡ 0) × (stop.place ≡ 0) × IsRunBarred (Some (current_of old)) definition
+    stop.refusal)
     ⊎ ((why_no_lone_definition definition ≡ None) × IsRunStopped old new (form_in definition) (has_amounts definition) bytes stop)

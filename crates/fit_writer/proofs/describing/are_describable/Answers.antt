@@ -5,7 +5,7 @@ use Rattle.fit_from_messages.proofs.CutEntries.{first_stands, long_bytes, long_e
 use Rattle.fit_from_messages.specs.Parts.{entries_of, number_read}
 use Rattle.fit_writer.proofs.ListedFields.{first_listed, listed_at, put_first, taken_first}
 use Rattle.fit_writer.specs.Describing.{DevField, CanBeSaid, IsAlike, IsDescribedField}
-use Rattle.fit_writer.specs.inner.Describing.{entry_fields, listed}
+use Rattle.fit_writer.specs.inner.Describing.{entry_fields, listed_fields}
 use Rattle.fit_writer.proofs.describing.are_describable.Goals as goal
 use Rattle.fit_writer.proofs.describing.are_describable.Goals.{After-split_entry}
 
@@ -24,7 +24,7 @@ more c =
     c.split_entry.ensures.entry c.split_entry.ensures.rest
 
 code_there : (c : After-split_entry) → c.loop-place.place < length c.args.all.now.codes.now
-code_there c = omega (arith, c.loop-place-test.true, c.requires.listed.many)
+code_there c = omega (arith, c.loop-place-test.true, c.requires.listed_fields.many)
 
 first : (c : After-split_entry)
     → entry_fields (drop c.loop-place.place c.args.all.now.fields.now) (drop c.loop-place.place c.args.all.now.codes.now)
@@ -33,10 +33,11 @@ first : (c : After-split_entry)
     ∷ entry_fields (drop (c.loop-place.place + 1) c.args.all.now.fields.now) (drop (c.loop-place.place + 1) c.args.all.now.codes.now)
     (entries_of (length c.args.all.now.fields.now - (c.loop-place.place + 1)) c.split_entry.result.1.now)
 first c =
-    first_listed c.args.all.now.fields.now c.args.all.now.codes.now c.loop-place.place _ _ c.split_entry.result.0.now c.loop-place-test.true (code_there c) (more c)
+    first_listed c.args.all.now.fields.now c.args.all.now.codes.now c.loop-place.place _ _ c.split_entry.result.0.now c.loop-place-test.true
+    (code_there c) (more c)
 
 pub bounds-all-place : goal.bounds-all-place
-bounds-all-place c = omega (arith, c.loop-place-test.true, c.requires.listed.many)
+bounds-all-place c = omega (arith, c.loop-place-test.true, c.requires.listed_fields.many)
 
 pub is_describable-requires-clause-first : goal.is_describable-requires-clause-first
 is_describable-requires-clause-first c =
@@ -45,7 +46,7 @@ is_describable-requires-clause-first c =
 
 -- what is asked of each
 abbrev holds : After-split_entry → DevField → Type 0
-holds c = λ x. (IsDescribedField c.args.stream.now x ⊎ CanBeSaid x.1) × AllByRecursion (IsAlike x) (listed c.args.all.now)
+holds c = λ x. (IsDescribedField c.args.stream.now x ⊎ CanBeSaid x.1) × AllByRecursion (IsAlike x) (listed_fields c.args.all.now)
 
 pub returns-then-not-is_describable-clause-no : goal.returns-then-not-is_describable-clause-no
 returns-then-not-is_describable-clause-no c = λ _ all.

@@ -9,10 +9,10 @@ use Rattle.fit_writer.proofs.describing.describe.Goals as goal
 pub are_describable-requires : goal.are_describable-requires
 are_describable-requires c =
     let all : Listed = record { fields = c.devs.result; codes = c.as_slice.result; entries = c.args.lone.now.dev } in
-    record { listed = is_listed c.args.lone.now all c.requires.lone c.devs.ensures c.as_slice.ensures refl }
+    record { listed_fields = is_listed c.args.lone.now all c.requires.lone c.devs.ensures c.as_slice.ensures refl }
 
-pub describe_each-requires-clause-listed : goal.describe_each-requires-clause-listed
-describe_each-requires-clause-listed c =
+pub describe_each-requires-clause-listed_fields : goal.describe_each-requires-clause-listed_fields
+describe_each-requires-clause-listed_fields c =
     let all : Listed = record { fields = c.devs.result; codes = c.as_slice.result; entries = c.args.lone.now.dev } in
     is_listed c.args.lone.now all c.requires.lone c.devs.ensures c.as_slice.ensures refl
 

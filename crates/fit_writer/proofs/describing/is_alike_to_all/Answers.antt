@@ -22,7 +22,7 @@ more c =
     c.split_entry.ensures.entry c.split_entry.ensures.rest
 
 code_there : (c : After-split_entry) → c.loop-place.place < length c.args.all.now.codes.now
-code_there c = omega (arith, c.loop-place-test.true, c.requires.listed.many)
+code_there c = omega (arith, c.loop-place-test.true, c.requires.listed_fields.many)
 
 first : (c : After-split_entry)
     → entry_fields (drop c.loop-place.place c.args.all.now.fields.now) (drop c.loop-place.place c.args.all.now.codes.now)
@@ -31,10 +31,11 @@ first : (c : After-split_entry)
     ∷ entry_fields (drop (c.loop-place.place + 1) c.args.all.now.fields.now) (drop (c.loop-place.place + 1) c.args.all.now.codes.now)
     (entries_of (length c.args.all.now.fields.now - (c.loop-place.place + 1)) c.split_entry.result.1.now)
 first c =
-    first_listed c.args.all.now.fields.now c.args.all.now.codes.now c.loop-place.place _ _ c.split_entry.result.0.now c.loop-place-test.true (code_there c) (more c)
+    first_listed c.args.all.now.fields.now c.args.all.now.codes.now c.loop-place.place _ _ c.split_entry.result.0.now c.loop-place-test.true
+    (code_there c) (more c)
 
 pub bounds-all-place : goal.bounds-all-place
-bounds-all-place c = omega (arith, c.loop-place-test.true, c.requires.listed.many)
+bounds-all-place c = omega (arith, c.loop-place-test.true, c.requires.listed_fields.many)
 
 pub is_alike-requires-clause-second : goal.is_alike-requires-clause-second
 is_alike-requires-clause-second c =
