@@ -38,7 +38,7 @@ static gazhdor_answer put_run(gazhdor_writer *writer, gazhdor_reader *at, uint64
         *at = next;
     } while (++count < most && gazhdor_next(&next) && next.block.kind == GAZHDOR_MESSAGE && next.definition.bytes == definition.bytes);
     gazhdor_answer answer = gazhdor_writer_messages(writer, definition.bytes, definition.length, first.bytes, length);
-    WANT(!is_good(answer) || is(answer, GAZHDOR_GOOD, 0, 0, count, 0, 0));
+    WANT(!is_good(answer) || (is(answer, GAZHDOR_GOOD, 0, 0, count, 0, answer.files) && answer.files <= count));
     return answer;
 }
 
@@ -54,10 +54,13 @@ static gazhdor_answer put(gazhdor_writer *writer, gazhdor_reader *at, uint64_t m
     }
 }
 
+/* Puts all blocks of a chain in their order, so that the amounts of each message are read as its block has them. */
 static void put_all(gazhdor_writer *writer, gazhdor_text blocks, uint64_t most)
 {
-    for (gazhdor_reader at = gazhdor_read(blocks); gazhdor_next(&at);)
-        WANT(is_good(put(writer, &at, most)));
+    for (gazhdor_reader at = gazhdor_read(blocks); gazhdor_next(&at);) {
+        gazhdor_answer answer = put(writer, &at, most);
+        WANT(is_good(answer) && answer.files == answer.row);
+    }
 }
 
 /* The writer makes these bytes, twice. */
@@ -232,7 +235,7 @@ static void has_first(gazhdor_writer *writer, size_t count)
 {
     gazhdor_writer other = begun();
     gazhdor_text wanted = GAZHDOR_NO_TEXT;
-    WANT(count == 0 || is(put_first(&other, count), GAZHDOR_GOOD, 0, 0, count, 0, 0));
+    WANT(count == 0 || is(put_first(&other, count), GAZHDOR_GOOD, 0, 0, count, 0, count));
     WANT(is_good(gazhdor_writer_finish(&other, &wanted)));
     makes(writer, wanted);
     gazhdor_free(wanted);
@@ -315,8 +318,8 @@ static void untold_times(void)
         message[GAZHDOR_AT_MESSAGE_BITS] |= GAZHDOR_TOLD_HEADER_TIME;
         gazhdor_store(message + GAZHDOR_AT_MESSAGE_HEADER_TIME, is_full ? 1000000000 : 0xFFFFFFFF, 8);
         gazhdor_answer answer = gazhdor_writer_messages(&writer, to.bytes + DEFINITION, place - DEFINITION, to.bytes + place, 2 * length);
-        WANT(is(answer, GAZHDOR_BLOCK, is_full ? GAZHDOR_BLOCK_FULL : GAZHDOR_BLOCK_TIME, length, 1, 0, 0));
-        WANT(is(put_first(&writer, COUNT), GAZHDOR_GOOD, 0, 0, COUNT, 0, 0));
+        WANT(is(answer, GAZHDOR_BLOCK, is_full ? GAZHDOR_BLOCK_FULL : GAZHDOR_BLOCK_TIME, length, 1, 0, 1));
+        WANT(is(put_first(&writer, COUNT), GAZHDOR_GOOD, 0, 0, COUNT, 0, COUNT));
         gazhdor_writer_close(&writer);
         free(to.bytes);
     }
@@ -355,9 +358,9 @@ static void lies(void)
             gazhdor_answer answer = gazhdor_writer_messages(&writer, small + DEFINITION, FIRST - DEFINITION, exact, COUNT * MESSAGE);
             int is_cut = said[i] < 24 || said[i] % 8 != 0 || said[i] > (COUNT - k) * MESSAGE, is_whole = !is_cut && said[i] % MESSAGE == 0;
             if (is_cut || said[i] < MESSAGE)
-                WANT(is(answer, GAZHDOR_BLOCK, is_cut ? GAZHDOR_BLOCK_CUT : GAZHDOR_BLOCK_ITEMS, k * MESSAGE, k, 0, 0));
+                WANT(is(answer, GAZHDOR_BLOCK, is_cut ? GAZHDOR_BLOCK_CUT : GAZHDOR_BLOCK_ITEMS, k * MESSAGE, k, 0, k));
             else if (is_whole)
-                WANT(is(answer, GAZHDOR_GOOD, 0, 0, COUNT + 1 - said[i] / MESSAGE, 0, 0));
+                WANT(is(answer, GAZHDOR_GOOD, 0, 0, COUNT + 1 - said[i] / MESSAGE, 0, answer.row));
             else
                 WANT(answer.status == GAZHDOR_BLOCK ? answer.place == k * MESSAGE + said[i] && answer.row == k + 1 : said[i] == (COUNT - k) * MESSAGE);
             free(exact);

@@ -183,14 +183,14 @@ def blocks_one_by_one(data):
 
 class Laws(unittest.TestCase):
     def test_copies_are_exact(self):
-        """All blocks of a chain, put one by one or in runs, make its bytes."""
+        """All blocks of a chain, put one by one or in runs, make its bytes, and all amounts are read as in them."""
         for name, data in chains():
             with self.subTest(chain=name):
                 for most in (1, 7, 10**9):
                     self.assertEqual(self.copied(data, most), data)
 
     def copied(self, data, most):
-        writer, names = OfLibrary(), {n.FILE_HEADER: "file", n.DEFINITION: "definition"}
+        writer, names, messages = OfLibrary(), {n.FILE_HEADER: "file", n.DEFINITION: "definition"}, 0
         writer.call("open")
         for own, group in itertools.groupby(blocks_one_by_one(data), lambda pair: pair[1]):
             blocks = [block for block, _ in group]
@@ -199,7 +199,9 @@ class Laws(unittest.TestCase):
             else:
                 answers = [writer.call("messages", own, b"".join(blocks[k : k + most]))._replace(row=0)
                     for k in range(0, len(blocks), most)]
+                messages += len(blocks)
             self.assertEqual(set(answers) - {writer_model.GOOD}, set())
+        self.assertEqual(writer.told, messages)
         answer, found = writer.finish()
         writer.close()
         self.assertEqual(answer, writer_model.GOOD)
