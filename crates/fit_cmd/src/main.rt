@@ -20,8 +20,8 @@ use std::process::ExitCode;
 
 const USAGE: &str = "usage: fit check|show|to-csv|from-csv|table [FILE]";
 
-/// How many bytes are read from a file at once.
-const INPUT: usize = 64 * 1024;
+/// How many bytes of a text are read at once.
+const TEXT: usize = 64 * 1024;
 
 /// Texts of fewer bytes are kept until there are as many to be written at once. A longer one is written without a copy.
 const OUTPUT: usize = 8 * 1024;
@@ -99,11 +99,19 @@ fn run_file(rt: &HostRuntime, command: Command, path: &str) -> u8 {
     }
 }
 
+/// How many bytes stand between a reader and a command. A recording is read right into its pieces, which are as long themselves.
+fn buffer_size(command: Command) -> usize {
+    match command {
+        Command::FromCsv => TEXT,
+        _ => 0,
+    }
+}
+
 /// Runs a command on what a reader gives. The output goes through a buffer, which is flushed before
 /// the status is made. Where the output is a pipe that nobody reads any more, nothing is said of that.
 fn run_reader<R: Read + Drop>(rt: &HostRuntime, command: Command, reader: R) -> u8 {
     let alloc: Global = rt.alloc();
-    let Ok(reader) = BufReader::with_capacity(alloc, INPUT, reader) else {
+    let Ok(reader) = BufReader::with_capacity(alloc, buffer_size(command), reader) else {
         return out_of_memory(rt);
     };
     let output = Output::new(rt.stdout());

@@ -18,19 +18,27 @@ nothing_known A = refl
 -- ---- by the fields
 
 module _ {A : Type 0} (d : Fields A) (bytes : List ℕ) (are : IsBytes bytes) where
-  nothing_held : d.env ≡ empty_environment → d.in_progress ≡ None → environment_size d.env + in_progress_size d.in_progress ≡ 0
-  nothing_held known idle = omega (arith, ap environment_size known ∙ nothing_known A, ap in_progress_size idle)
+  abbrev in_record : ℕ
+  in_record = in_progress_size d.env d.position d.in_progress
 
-  kept_in_data : (k : InData d bytes) → IsCountable d.in_progress
-      × (in_progress_size d.in_progress ≡ held_of_record (learn_all empty_environment k.records) k.part)
-      × (in_progress_size d.in_progress ≤ part_size (learn_all empty_environment k.records) k.part)
+  nothing_held : d.env ≡ empty_environment → d.in_progress ≡ None → environment_size d.env + in_record ≡ 0
+  nothing_held known idle = omega (arith, ap environment_size known ∙ nothing_known A, ap (in_progress_size d.env d.position) idle)
+
+  abbrev IsKeptAs : Environment A → Environment A → List ℕ → Type 0
+  IsKeptAs e known part = IsCountable e d.position d.in_progress
+      × (in_progress_size e d.position d.in_progress ≡ held_of_record known part)
+      × (in_progress_size e d.position d.in_progress ≤ part_size known part)
+
+  kept_in_data : (k : InData d bytes) → IsKeptAs d.env (learn_all empty_environment k.records) k.part
   kept_in_data k =
       let room : ℕ = k.size - length (records_bytes empty_environment k.records) in
-      held_is_of_bytes k.records room k.part d.position d.in_progress k.come.next.1
+      let known : Environment A = learn_all empty_environment k.records in
+      subst (λ e. IsKeptAs e known k.part) (sym k.known)
+      (held_is_of_bytes k.records room k.part d.position d.in_progress k.come.next.1
       (records_are k.files k.header k.size k.records k.part bytes k.come are)
-      (subst (λ e. IsInProgress e room k.part d.position d.in_progress) k.known k.in_record)
+      (subst (λ e. IsInProgress e room k.part d.position d.in_progress) k.known k.in_record))
 
-  held_at : (s : Section) → HoldsAt s d bytes → refusal_of s ≡ None → IsHeld A bytes (environment_size d.env + in_progress_size d.in_progress)
+  held_at : (s : Section) → HoldsAt s d bytes → refusal_of s ≡ None → IsHeld A bytes (environment_size d.env + in_record)
   held_at (Latched reason) k fresh = absurd cc
   held_at Header k fresh =
       let none = nothing_held k.known k.idle in
@@ -41,7 +49,7 @@ module _ {A : Type 0} (d : Fields A) (bytes : List ℕ) (are : IsBytes bytes) wh
       let known = ap environment_size k.known in
       let some : (length (records_bytes empty_environment k.records) == k.size) ≡ false =
       ne_eqb (length (records_bytes empty_environment k.records)) k.size (λ all. let more = k.some in omega (arith, more, all)) in
-      let exact : in_progress_size d.in_progress ≡ cond (length (records_bytes empty_environment k.records) == k.size) 0 (held_of_record e k.part) =
+      let exact : in_record ≡ cond (length (records_bytes empty_environment k.records) == k.size) 0 (held_of_record e k.part) =
       kept.1 ∙ sym (cond-false (length (records_bytes empty_environment k.records) == k.size) 0 (held_of_record e k.part) some) in
       let counted = cond-false (length (records_bytes empty_environment k.records) == k.size) 0 (part_size e k.part) some in
       record {
@@ -51,14 +59,14 @@ module _ {A : Type 0} (d : Fields A) (bytes : List ℕ) (are : IsBytes bytes) wh
         is = omega (arith, known, exact);
         within = omega (arith, known, kept.2, counted);
         all = λ idle.
-            let none : in_progress_size d.in_progress ≡ 0 =
-            ap in_progress_size ((idle_between_records d.env _ k.part d.position d.in_progress k.in_record).1 idle) in
+            let none : in_record ≡ 0 =
+            ap (in_progress_size d.env d.position) ((idle_between_records d.env _ k.part d.position d.in_progress k.in_record).1 idle) in
             let no_part : part_size e k.part ≡ 0 = ap (part_size e) idle in
             omega (arith, known, none, no_part, counted);
       }
   held_at ClosingSum k fresh =
       let known = ap environment_size k.known in
-      let none : in_progress_size d.in_progress ≡ 0 = ap in_progress_size k.idle in
+      let none : in_record ≡ 0 = ap (in_progress_size d.env d.position) k.idle in
       let over = eq-eqb (length (records_bytes empty_environment k.records)) k.size (let less = k.come.next.2 in let all = k.over in omega (arith, less, all))
       in
       record {
@@ -79,35 +87,36 @@ module _ {A : Type 0} (d : Fields A) (bytes : List ℕ) (are : IsBytes bytes) wh
             omega (arith, known, none, uncounted);
       }
 
-  small_at : (s : Section) → HoldsAt s d bytes → IsCountable d.in_progress
-  small_at Header k = subst IsCountable (sym k.idle) tt
-  small_at ClosingSum k = subst IsCountable (sym k.idle) tt
+  small_at : (s : Section) → HoldsAt s d bytes → IsCountable d.env d.position d.in_progress
+  small_at Header k = subst (IsCountable d.env d.position) (sym k.idle) tt
+  small_at ClosingSum k = subst (IsCountable d.env d.position) (sym k.idle) tt
   small_at Data k = (kept_in_data k).0
-  small_at (Latched reason) k = subst IsCountable (sym k.1) tt
+  small_at (Latched reason) k = subst (IsCountable d.env d.position) (sym k.1) tt
 
-  limited_at : (s : Section) → HoldsAt s d bytes → environment_size d.env + in_progress_size d.in_progress ≤ bound_limit
+  limited_at : (s : Section) → HoldsAt s d bytes → environment_size d.env + in_record ≤ bound_limit
   limited_at (Latched reason) k = omega (arith, nothing_held k.0 k.1)
   limited_at s k = let h = held_at s k refl in omega (arith, h.within, limited_bound h.files h.progress bytes h.come are)
 
   let_go_at : (s : Section) → HoldsAt s d bytes → (reason : Reason) → refusal_of s ≡ Some reason
-      → environment_size d.env + in_progress_size d.in_progress ≡ 0
+      → environment_size d.env + in_record ≡ 0
   let_go_at (Latched was) k reason is = nothing_held k.0 k.1
   let_go_at s k reason is = absurd cc
 
   held_after_chain : (s : Section) → HoldsAt s d bytes → d.stage.section ≡ s → AreChain A bytes
-      → environment_size d.env + in_progress_size d.in_progress ≡ 0
+      → environment_size d.env + in_record ≡ 0
   held_after_chain (Latched reason) k at chain = nothing_held k.0 k.1
   held_after_chain Header k at chain = nothing_held k.known k.idle
   held_after_chain s k at chain = let ended = (chain_at d bytes s k at refl chain).0 in absurd cc
 
 -- ---- what a caller sees
 
-pub small_seen : {A : Type 0} (d : Inside A) → IsSoundDecoder d → IsCountable d.in_progress
+pub small_seen : {A : Type 0} (d : Inside A) → IsSoundDecoder d → IsCountable d.env d.position d.in_progress
 small_seen d k = small_at (fields_inside d) d.history.items k.are d.stage.section k.holds
 
-module _ {A : Type 0} (d : Inside A) (k : IsSoundDecoder d) (n m : ℕ) (env : n ≡ environment_size d.env) (in_progress : m ≡ in_progress_size d.in_progress)
+module _ {A : Type 0} (d : Inside A) (k : IsSoundDecoder d) (n m : ℕ) (env : n ≡ environment_size d.env)
+    (in_progress : m ≡ in_progress_size d.env d.position d.in_progress)
   where
-    count : environment_size d.env + in_progress_size d.in_progress ≡ n + m
+    count : environment_size d.env + in_progress_size d.env d.position d.in_progress ≡ n + m
     count = omega (arith, env, in_progress)
 
     pub limited_seen : n + m ≤ bound_limit

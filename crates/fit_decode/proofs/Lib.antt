@@ -19,6 +19,7 @@ pub mod Holding
 pub mod NextRead
 pub mod ChainRead
 pub mod Skipping
+pub mod Passing
 pub mod LookingAhead
 pub mod Nearly
 pub mod Checking

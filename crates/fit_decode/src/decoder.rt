@@ -270,7 +270,8 @@ impl<A: Allocator + Copy> Decoder<A> {
     }
 
     /// How much is held: the fields and developer fields of all definitions, the described developer fields, and of the
-    /// record in progress the fields, developer fields and items.
+    /// record in progress the fields, developer fields and items. These count as soon as they have come, also where `skip_records` keeps
+    /// the bytes of a message and has made no field of it.
     pub fn held(&self) -> u64
         ensures held { self.now.refusal ≡ None → IsHeld A self.now.bytes result }
         ensures refused { (reason : Reason) → self.now.refusal ≡ Some reason → result ≡ 0 }
@@ -301,10 +302,10 @@ impl<A: Allocator + Copy> Decoder<A> {
         let env: &Env<A> = env;
         let in_progress: &Option<Record<A>> = in_progress;
         let (_files, _section, _half): (&u32, &Section, &bool) = (files, section, half);
-        let _position: &Position = position;
+        let position: &Position = position;
         let _count: &u64 = count;
         let _history: &History<u8> = history;
-        env.held() + in_progress_size(in_progress)
+        env.held() + in_progress_size(env, position, in_progress)
     }
 }
 

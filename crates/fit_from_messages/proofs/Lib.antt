@@ -15,7 +15,7 @@ pub mod SameSayings
 mod DefinitionFacts
 pub mod OneFinding
 mod PlacedItems
-mod MessageFacts
+pub mod MessageFacts
 mod FullSlots
 mod LoneBlocks
 mod SoundFiles

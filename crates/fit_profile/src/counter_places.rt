@@ -33,14 +33,19 @@ fn has_items(c: Component, field: &FieldDef) -> bool
     width_of(Code(field.code), field.size) == c.width && (field.size / c.width) as usize == c.items
 }
 
-/// Where the number of a component begins in the bytes of fields.
-fn place_in(c: Component, fields: &[FieldDef]) -> Option<u16>
+/// Where the number of a component begins in the bytes of fields that have these places.
+fn place_in(c: Component, fields: &[FieldDef], places: &[u8; 256]) -> Option<u16>
+    requires field { c.field < 256 }
     requires width { 0 < c.width }
     requires few { length fields.now < 256 }
+    requires places { AreFieldPlaces places.now fields.now }
     ensures within { IfSome result (λ p. p + c.items * c.width ≤ sizes (shapes fields.now)) }
     ensures number { (order : Order) (bytes : List ℕ)
         → number_of_fields c order fields.now bytes ≡ number_at c order result bytes }
 {
+    if places[c.field as usize] == 0 {
+        return None;
+    }
     let mut place = 0;
     for field in fields {
         if field.number == c.field {
@@ -54,16 +59,19 @@ fn place_in(c: Component, fields: &[FieldDef]) -> Option<u16>
     None
 }
 
-/// Where the number of a component begins in the messages of a definition: only record messages have counters.
-fn place_of(c: Component, definition: &MessageDef) -> Option<u16>
+/// Where the number of a component begins in the messages of a definition whose fields have these places: only record messages have
+/// counters.
+fn place_of(c: Component, definition: &MessageDef, places: &[u8; 256]) -> Option<u16>
+    requires field { c.field < 256 }
     requires width { 0 < c.width }
     requires few { length definition.now.fields < 256 }
+    requires places { AreFieldPlaces places.now definition.now.fields }
     ensures { IsPlaceOf c result definition.now }
 {
     if definition.global != RECORD {
         return None;
     }
-    place_in(c, definition.fields.as_slice())
+    place_in(c, definition.fields.as_slice(), places)
 }
 
 /// A number that counts.
@@ -98,9 +106,10 @@ pub(crate) fn may_count_by(definition: &MessageDef, places: &[u8; 256]) -> bool
 }
 
 impl CounterPlaces {
-    /// Those of a definition whose messages may have counters, or have none.
-    pub fn of(definition: &MessageDef, may_count: bool) -> CounterPlaces
+    /// Those of a definition whose fields have these places, and whose messages may have counters, or have none.
+    pub fn of(definition: &MessageDef, places: &[u8; 256], may_count: bool) -> CounterPlaces
         requires few { length definition.now.fields < 256 }
+        requires places { AreFieldPlaces places.now definition.now.fields }
         requires counts { may_count ≡ (definition.now.global == 20
             && list_any (λ f. is_counter f.number) definition.now.fields) }
         ensures { ArePlacesOf result definition.now }
@@ -113,9 +122,9 @@ impl CounterPlaces {
             };
         }
         CounterPlaces {
-            distance: place_of(DISTANCE, definition),
-            cycles: place_of(TOTAL_CYCLES, definition),
-            power: place_of(ACCUMULATED_POWER, definition),
+            distance: place_of(DISTANCE, definition, places),
+            cycles: place_of(TOTAL_CYCLES, definition, places),
+            power: place_of(ACCUMULATED_POWER, definition, places),
         }
     }
 

@@ -1,5 +1,5 @@
 //! What a stream takes in of a record: its environment, and the names and units of developer fields.
-ghost use Rattle.std.specs.Prelude.{◌≡◌, OnOk, OnErr, IfOk, IsOk, IsSomeAnd, None, option_and_then};
+ghost use Rattle.std.specs.Prelude.{◌≡◌, OnOk, OnErr, IfOk, IsOk, IsSomeAnd, None, false, option_and_then};
 ghost use Rattle.fit_record.specs.Environment.{DescribesNothing, defined_at, described_by, learn};
 ghost use Rattle.fit_record.specs.Records.{DataFits, Fits};
 ghost use Rattle.fit_record.specs.declared.message.Record.TheVariants.{Define, Values as Data};
@@ -9,25 +9,28 @@ use crate::names::{Described, Names, texts_of};
 use fit_record::{Env, MessageDef, Record, Values};
 use std::alloc::{AllocError, Global};
 
-/// Takes a definition in: its developer fields have the names and units of their last descriptions.
-fn define(
-    env: &mut Env,
-    names: &mut Names,
-    record_: &Record,
-    definition: &MessageDef,
-) -> Result<(), AllocError>
-    requires is { record_.now ≡ Define definition.now }
-    requires fits { Fits env.old record_.now }
-    ensures learned { OnOk result (env.new ≡ learn env.old record_.now) }
+/// Takes a definition in: its developer fields have the names and units of their last descriptions. Says whether what is known may
+/// change.
+fn define(env: &mut Env, names: &mut Names, definition: &MessageDef) -> Result<bool, AllocError>
+    requires { Fits env.old (Define definition.now) }
+    ensures learned { OnOk result (env.new ≡ learn env.old (Define definition.now)) }
+    ensures same { IfOk result (λ changes. changes ≡ false
+        → learn env.old (Define definition.now) ≡ env.old) }
     ensures env_kept { OnErr result (env.new ≡ env.old) }
-    ensures names { OnOk result (AreNamesAfter env.old record_.now names.old names.new) }
+    ensures names { OnOk result
+        (AreNamesAfter env.old (Define definition.now) names.old names.new) }
     ensures names_kept { OnErr result (AreSameNames names.old names.new) }
 {
-    names.make_place(definition)?;
-    let namings = names.namings_of(definition)?;
-    env.learn(record_)?;
+    let Some(fields) = &definition.dev else {
+        let changes = env.learn_definition(definition)?;
+        names.forget(definition.local);
+        return Ok(changes);
+    };
+    names.make_place(definition.local)?;
+    let namings = names.all_texts_at(fields.as_slice())?;
+    let changes = env.learn_definition(definition)?;
     names.put(definition.local, namings);
-    Ok(())
+    Ok(changes)
 }
 
 /// The developer field that a message describes, with its name and its unit.
@@ -79,10 +82,16 @@ fn describe(
     Ok(())
 }
 
-/// Takes a record in. Where memory is refused, all that is known stays.
-pub(crate) fn take_in(env: &mut Env, names: &mut Names, record_: &Record) -> Result<(), AllocError>
+/// Takes a record in. Where memory is refused, all that is known stays. Says whether what is defined may change.
+pub(crate) fn take_in(
+    env: &mut Env,
+    names: &mut Names,
+    record_: &Record,
+) -> Result<bool, AllocError>
     requires { Fits env.old record_.now }
     ensures learned { OnOk result (env.new ≡ learn env.old record_.now) }
+    ensures same { IfOk result (λ changes. changes ≡ false
+        → learn env.old record_.now ≡ env.old) }
     ensures env_kept { OnErr result (env.new ≡ env.old) }
     ensures names { OnOk result (AreNamesAfter env.old record_.now names.old names.new) }
     ensures names_kept { OnErr result (AreSameNames names.old names.new) }
@@ -90,7 +99,10 @@ pub(crate) fn take_in(env: &mut Env, names: &mut Names, record_: &Record) -> Res
     ensures free { DescribesNothing env.old record_.now → IsOk result }
 {
     match record_ {
-        Record::Define(definition) => define(env, names, record_, definition),
-        Record::Values(values) => describe(env, names, record_, values),
+        Record::Define(definition) => define(env, names, definition),
+        Record::Values(values) => {
+            describe(env, names, record_, values)?;
+            Ok(true)
+        }
     }
 }

@@ -1,8 +1,8 @@
 //! Names and units of developer fields: those of the last descriptions, and those of the defined fields.
-ghost use Rattle.std.specs.Prelude.{◌≡◌, ◌==◌, ◌<◌, ◌⊎◌, IfOk, OnOk, IsSome, ℕ, [], if◌then◌else◌, length, map, option_map, slice_get, slice_index_or};
+ghost use Rattle.std.specs.Prelude.{◌≡◌, ◌==◌, ◌<◌, IfOk, OnOk, IsSome, ℕ, [], if◌then◌else◌, length, map, option_map, slice_get, slice_index_or};
 ghost use Rattle.std.specs.BTreeMap.{get};
 ghost use Rattle.std.specs.String.{string_bytes};
-ghost use Rattle.fit_record.specs.Environment.{dev_defs, dev_key_cmp};
+ghost use Rattle.fit_record.specs.Environment.{dev_key_cmp};
 ghost use Rattle.fit_profile.specs.Described.{naming, nameless};
 ghost use Rattle.fit_profile.specs.inner.Keeps.{is_key, naming_in, namings_in};
 
@@ -236,7 +236,7 @@ impl<A: Allocator + Copy> Names<A> {
     }
 
     /// The names and units of developer fields that are defined now.
-    fn all_texts_at(&self, fields: &[DevDef]) -> Result<Entries<Texts<A>, A>, AllocError>
+    pub fn all_texts_at(&self, fields: &[DevDef]) -> Result<Entries<Texts<A>, A>, AllocError>
         ensures { IfOk result (λ all.
             all ≡ map (λ f. naming_in self.now f.index f.number) fields.now) }
     {
@@ -248,42 +248,37 @@ impl<A: Allocator + Copy> Names<A> {
         Ok(all)
     }
 
-    /// The names and units of the developer fields of a definition that comes now.
-    pub fn namings_of(&self, definition: &MessageDef<A>) -> Result<Entries<Texts<A>, A>, AllocError>
-        ensures { IfOk result (λ all. all ≡ map (λ f. naming_in self.now f.index f.number)
-            (dev_defs definition.now.dev)) }
-    {
-        match &definition.dev {
-            Some(fields) => self.all_texts_at(fields.as_slice()),
-            None => Ok(Entries::new(self.alloc)),
-        }
-    }
-
-    /// Takes memory for the names and units of the developer fields of a definition, where it has some. No name or unit changes.
-    pub fn make_place(&mut self, definition: &MessageDef<A>) -> Result<(), AllocError>
+    /// Takes memory for the names and units of a local message type. No name or unit changes.
+    pub fn make_place(&mut self, local: u8) -> Result<(), AllocError>
         ensures naming { (index number : ℕ) → naming_in self.new index number
             ≡ naming_in self.old index number }
         ensures namings { (local : ℕ) → namings_in self.new local ≡ namings_in self.old local }
-        ensures held { OnOk result ((dev_defs definition.now.dev ≡ [])
-            ⊎ (definition.now.local < length self.new.places.items)) }
+        ensures held { OnOk result (local < length self.new.places.items) }
     {
-        if definition.dev.is_none() {
-            return Ok(());
+        grow(&mut self.places, self.alloc, local)
+    }
+
+    /// A local message type has no developer fields any more.
+    pub fn forget(&mut self, local: u8)
+        ensures namings { (l : ℕ) → namings_in self.new l
+            ≡ (if local == l then [] else namings_in self.old l) }
+        ensures naming { (index number : ℕ) → naming_in self.new index number
+            ≡ naming_in self.old index number }
+    {
+        if (local as usize) < self.places.len() {
+            self.places[local as usize] = Entries::new(self.alloc);
         }
-        grow(&mut self.places, self.alloc, definition.local)
     }
 
     /// Keeps the names and units of a local message type.
     pub fn put(&mut self, local: u8, namings: Entries<Texts<A>, A>)
-        requires { (namings ≡ []) ⊎ (local < length self.old.places.items) }
+        requires { local < length self.old.places.items }
         ensures namings { (l : ℕ) → namings_in self.new l
             ≡ (if local == l then namings else namings_in self.old l) }
         ensures naming { (index number : ℕ) → naming_in self.new index number
             ≡ naming_in self.old index number }
     {
-        if (local as usize) < self.places.len() {
-            self.places[local as usize] = namings;
-        }
+        self.places[local as usize] = namings;
     }
 
     /// Takes memory for what will be described. No name or unit changes.

@@ -1,5 +1,5 @@
 //! What is found out once of a definition, so that a stream takes in its data messages quickly, as records or by their bytes.
-ghost use Rattle.std.specs.Prelude.{◌≡◌, ◌==◌, ◌&&◌, ◌≤◌, ◌<◌, ◌+◌, ℕ, List, Option, IfSome, IsOk, OnOk, length, max, None, option_copied, slice_index_or, slice_set, Some, not, true, vec_capacity};
+ghost use Rattle.std.specs.Prelude.{◌≡◌, ◌==◌, ◌&&◌, ◌≤◌, ◌<◌, ◌+◌, ℕ, List, Option, IfSome, IsOk, OnOk, length, max, None, false, option_copied, slice_index_or, slice_set, Some, not, true, vec_capacity};
 ghost use Rattle.std.specs.List.{list_any};
 ghost use Rattle.fit_base.specs.BaseTypes.{base_type};
 ghost use Rattle.fit_base.specs.declared.number.Order.{Order};
@@ -120,7 +120,7 @@ impl Plan {
             is_silent: is_silent(definition, &places),
             has_lone_fields: None,
             time_place: time_place(fields, &places),
-            counters: CounterPlaces::of(definition, may_count),
+            counters: CounterPlaces::of(definition, &places, may_count),
             places,
         }
     }
@@ -242,14 +242,18 @@ impl Plans {
         }
     }
 
-    /// Takes a record in.
-    pub fn take(&mut self, record_: &Record)
+    /// Takes a record in, where it may change what is defined.
+    pub fn take(&mut self, record_: &Record, changes: bool)
         requires fits { (e : Environment Global) × Fits e record_.now }
         requires room { HasRoomFor self.old.places.items record_.now }
         ensures { (e : Environment Global) → length e.places ≡ 16
             → ArePlanned self.old.places.items e.places
+            → (changes ≡ false → learn e record_.now ≡ e)
             → ArePlanned self.new.places.items (learn e record_.now).places }
     {
+        if !changes {
+            return;
+        }
         match record_ {
             Record::Define(definition) => self.put(definition.local, Plan::of(definition)),
             Record::Values(_) => {}

@@ -135,8 +135,8 @@ impl Stream {
         ensures free { DescribesNothing (known self.old) record_.now → IsOk result }
     {
         self.plans.make_room(record_)?;
-        take_in(&mut self.env, &mut self.names, record_)?;
-        self.plans.take(record_);
+        let changes = take_in(&mut self.env, &mut self.names, record_)?;
+        self.plans.take(record_, changes);
         self.last = last;
         self.is_new = false;
         self.pushed.add(record_);

@@ -1,6 +1,6 @@
 //! What a reader of records knows: the definition of each local message type, and the described
 //! developer fields.
-ghost use Rattle.std.specs.Prelude.{◌≡◌, ◌+◌, ◌<◌, ◌≤◌, IfOk, IfErr, map, option_map, option_copied, slice_get, slice_set, IsOk, IsSomeAnd, OnOk, OnErr, IfSome, IsTrue, Some, None, [], length};
+ghost use Rattle.std.specs.Prelude.{◌≡◌, ◌+◌, ◌<◌, ◌≤◌, IfOk, IfErr, map, option_map, option_copied, slice_get, slice_set, false, IsOk, IsSomeAnd, OnOk, OnErr, IfSome, IsTrue, Some, None, [], length};
 ghost use Rattle.fit_record.specs.declared.message.Record.TheVariants.{Define};
 ghost use Rattle.fit_record.specs.Environment.{DescribesNothing, empty_environment, defined_at, defined_by, definition_at, describe, described_by, dev_code, dev_code_at, dev_defs, learn};
 ghost use Rattle.fit_record.specs.Records.{Fits, DefinitionFits, DataFits, body_length, message_size, record_bytes};
@@ -162,24 +162,30 @@ impl<A: Allocator + Copy> Env<A> {
         ensures free { DescribesNothing self.old r.now → IsOk result }
     {
         match r {
-            Record::Define(d) => self.learn_definition(d),
+            Record::Define(d) => {
+                self.learn_definition(d)?;
+                Ok(())
+            }
             Record::Values(v) => self.take_in(v),
         }
     }
 
-    /// Takes a definition in, with memory of its own where it isn't in its place already. It stands apart, since most records are
-    /// data messages.
+    /// Takes a definition in, as `learn` does, with memory of its own where it isn't in its place already. Says whether anything may
+    /// change. It stands apart, since most records are data messages.
     #[inline(never)]
-    fn learn_definition(&mut self, d: &MessageDef<A>) -> Result<(), AllocError>
+    pub fn learn_definition(&mut self, d: &MessageDef<A>) -> Result<bool, AllocError>
         requires { DefinitionFits d.now }
         ensures ok { OnOk result (self.new ≡ learn self.old (Define d.now)) }
         ensures err { OnErr result (self.new ≡ self.old) }
+        ensures same { IfOk result (λ changes. changes ≡ false
+            → learn self.old (Define d.now) ≡ self.old) }
     {
         if self.holds(d) {
-            return Ok(());
+            return Ok(false);
         }
         let copy = definition_copy(self.alloc, d)?;
-        self.define(copy)
+        self.define(copy)?;
+        Ok(true)
     }
 
     /// Whether a definition without developer fields is in its place already, so that nothing changes where it is taken in.

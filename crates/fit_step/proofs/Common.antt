@@ -54,8 +54,10 @@ pub use Rattle.fit_record.specs.declared.message.Record.TheVariants.{Values as D
 pub use Rattle.fit_record.specs.declared.message.Values.{Values}
 pub use Rattle.fit_step.specs.GoingOn.{Continues, goes_on, has_dev, definition_goes_on}
 pub use Rattle.fit_step.specs.Held.{entries_so_far, held_of_record, part_size, counts_so_far, item_count, items_so_far}
-pub use Rattle.fit_step.specs.InProgress.{in_progress_size, IsCountable, HeldIsOfBytes, HeldIsLimited, items_in, StandsAfter, IsInProgress, ReadsRecord}
-pub use Rattle.fit_step.specs.InProgress.{NoRecord, FillFrom, RecordsInProgress, IdleIsBetweenRecords, RefusedBytesHaveReasons, values_size}
+pub use Rattle.fit_step.specs.InProgress.{in_progress_size, IsCountable, HeldIsOfBytes, HeldIsLimited, items_in, StandsAfter}
+pub use Rattle.fit_step.specs.InProgress.{IsInProgress, IsKeptMessage, ReadsRecord}
+pub use Rattle.fit_step.specs.InProgress.{NoRecord, kept_size, message_held, FillFrom}
+pub use Rattle.fit_step.specs.InProgress.{RecordsInProgress, IdleIsBetweenRecords, RefusedBytesHaveReasons, values_size}
 pub use Rattle.fit_step.specs.Laws.{BeginningsStand, CanBecomeRecord, PartsAreTested, RecordsEnd, TakenBytesGoOn, TakenBytesEnd, RefusedBytesEndAll}
 pub use Rattle.fit_step.specs.Laws.{TakenBytesStand}
 pub use Rattle.fit_step.specs.Machine.{Tests, add_number, reading, values_of, step_at, Step, defining, next_field, next_dev, after_fields, dev_count_byte}
@@ -68,7 +70,8 @@ pub use Rattle.fit_step.specs.Parts.{IsDefinitionPart, IsShut, RecordPart, nothi
 pub use Rattle.fit_step.specs.Parts.{width_of, all_items, IsTaking, HasBegun}
 pub use Rattle.fit_step.specs.Places.{state_at, Steps, TakesNone, WantsNone, PartFitsRoom, KeepsPart, Begins}
 pub use Rattle.fit_step.specs.Reasons.{definition_reason, overrun_or_no_fit, record_reason, least_definition}
-pub use Rattle.fit_step.specs.Skipping.{HasMessage, AreSkipped, size_to_skip, AreSizesToSkip, HeadsMessage, IsSkipped, Learns, SkipsInSection}
+pub use Rattle.fit_step.specs.Skipping.{AreTogether, HasMessage, AreSkipped, size_to_skip, AreSizesToSkip, HasSizeOf}
+pub use Rattle.fit_step.specs.Skipping.{HeadsMessage, IsSkipped, Learns, SkipsInSection, PassesInSection}
 pub use Rattle.fit_step.specs.Tests.{tests_of, entries_complete}
 pub use Rattle.fit_step.specs.declared.phase.DefinitionPhase.{DefinitionPhase}
 pub use Rattle.fit_step.specs.declared.phase.DefinitionPhase.TheVariants.{Reserved, Architecture as AtArchitecture, GlobalFirst, GlobalSecond, FieldCount}
@@ -78,6 +81,7 @@ pub use Rattle.fit_step.specs.declared.phase.Phase.TheVariants.{FieldItems, DevI
 pub use Rattle.fit_step.specs.declared.position.Position.{Position}
 pub use Rattle.fit_step.specs.declared.stop.Stop.{Stop}
 pub use Rattle.fit_step.specs.declared.stop.Stop.TheVariants.{Refused, NoMemory}
+pub use Rattle.fit_step.specs.inner.Short.{IsCutMessage, IsMissing}
 pub use Rattle.fit_step.specs.inner.Runs.{Fails, NoFitFails, CutsGoOn, RecordsRunThrough}
 pub use Rattle.fit_step.specs.inner.Scans.{RecordByte, StandsWithRoom, TakesByte}
 pub use Rattle.fit_step.specs.inner.Steps.{IsDefining, message_begun, entered, state, Made, Defines, DefinesAt, ReadsAt, IsInField, next_with_bytes}

@@ -4,12 +4,13 @@ use Rattle.fit_step.proofs.Common.{length-number_bytes, MessageDef, Environment,
 use Rattle.fit_step.proofs.Common.{dev_field_bytes, DefinitionFits, entry_count, DefinitionPhase, Reserved, AtArchitecture, GlobalFirst, GlobalSecond}
 use Rattle.fit_step.proofs.Common.{FieldCount, FieldNumber, FieldSize, FieldCode, DevCount, DevNumber, DevSize, DevIndex, RecordPart, nothing, in_definition}
 use Rattle.fit_step.proofs.Common.{in_fields, in_dev_fields, definition_part, part_bytes, IsNew, AwaitsFields, AwaitsDev, IsDefinitionPart, IsPart, state_of}
-use Rattle.fit_step.proofs.Common.{HasNone, fields_front, dev_front, entries_so_far, held_of_record, part_size, in_progress_size, IsCountable, append-nil}
+use Rattle.fit_step.proofs.Common.{HasNone, fields_front, dev_front, entries_so_far, held_of_record, part_size, append-nil}
 use Rattle.fit_step.proofs.Common.{DevDef, Defined, IsDefining, nat_tests, ◌≤◌, slice_index, length-dev_fields}
 use Rattle.fit_step.proofs.DefinitionReasons.{count_at, count_before, count_in_dev}
 use Rattle.fit_step.proofs.HeaderBits.{definition_bits}
 use Rattle.fit_step.proofs.Lengths.{length-fields_front}
-use Rattle.fit_step.proofs.HeldParts.{front_of, devs_of, no_dev_fields, fields_counted, dev_counted, after_both, in_fields_held, in_dev_held, message_within}
+use Rattle.fit_step.proofs.HeldParts.{front_of, devs_of, no_dev_fields, fields_counted, dev_counted, after_both, in_fields_held}
+use Rattle.fit_step.proofs.HeldParts.{in_dev_held, message_within, made_size, IsMadeCountable}
 use Rattle.fit_step.proofs.Limits.{AreLimited, IsLimited}
 use Rattle.fit_step.proofs.Preconditions.{is_defining}
 
@@ -108,11 +109,11 @@ codes_known : {A : Type 0} (e : Environment A) (local : ℕ) (p : Rattle.fit_rec
 codes_known e local p known at = (subst IsLimited at (known.places local)).2
 
 pub part_is : {A : Type 0} (e : Environment A) (room : ℕ) (f : RecordPart A) → AreLimited e → IsPart e f
-    → in_progress_size (state_of room f).in_progress ≡ held_of_record e (part_bytes e f)
+    → made_size (state_of room f).in_progress ≡ held_of_record e (part_bytes e f)
 part_is e room nothing known h = refl
 part_is e room (in_definition k d) known h = (definition_is e d k h).0
 part_is e room (in_fields local offset t dev) known (p, at, fits, taking, same) =
-    subst (λ l. in_progress_size (state_of room (in_fields local offset t l)).in_progress ≡ held_of_record e (part_bytes e (in_fields local offset t l)))
+    subst (λ l. made_size (state_of room (in_fields local offset t l)).in_progress ≡ held_of_record e (part_bytes e (in_fields local offset t l)))
     (sym same)
     (in_fields_held e local offset p at fits (codes_known e local p known at) t taking)
 part_is e room (in_dev_fields local offset items t) known (p, at, fits, shape, taking) =
@@ -120,7 +121,7 @@ part_is e room (in_dev_fields local offset items t) known (p, at, fits, shape, t
 
 -- what there is of a record is no more than its bytes tell
 pub part_held : {A : Type 0} (e : Environment A) (room : ℕ) (f : RecordPart A) → AreLimited e → IsPart e f
-    → in_progress_size (state_of room f).in_progress ≤ part_size e (part_bytes e f)
+    → made_size (state_of room f).in_progress ≤ part_size e (part_bytes e f)
 part_held e room nothing limited h = omega arith
 part_held e room (in_definition k d) limited h = (definition_is e d k h).1
 part_held e room (in_fields local offset t dev) limited h =
@@ -141,7 +142,7 @@ fits_of (DevIndex left number size) d h = h.0
 fits_of k d h = h
 
 pub part_small : {A : Type 0} (e : Environment A) (room : ℕ) (f : RecordPart A) → AreLimited e → IsPart e f → part_size e (part_bytes e f) ≤ 130560
-    → IsCountable (state_of room f).in_progress
+    → IsMadeCountable (state_of room f).in_progress
 part_small e room nothing limited h few = tt
 part_small e room (in_definition k d) limited h few = let fits = fits_of k d (is_defining k d h) in (fits.fields, fits.dev_fields)
 part_small e room f limited h few = omega (arith, part_held e room f limited h, few)

@@ -6,7 +6,7 @@ use Rattle.fit_step.proofs.Common.{has_developer_fields, local_type, architectur
 use Rattle.fit_step.proofs.Common.{no_items, HasNone, counts_so_far, item_count, part_size, items_in, ◌≤◌, map, sum_by, slice_index, length-append, min}
 use Rattle.fit_step.proofs.Common.{div-le_self, append-nil, length-map, sum_by-append, Order, items_bytes, layout, dev_layout, data_header, DataHeaderFits}
 use Rattle.fit_step.proofs.Common.{order_at, sizes, TakenFields, width_of, taken, all_items, IsTaking, length-dev_layout, items_so_far, held_of_record}
-use Rattle.fit_step.proofs.Common.{values_size, le-div, length-items}
+use Rattle.fit_step.proofs.Common.{values_size, le-div, length-items, Record, Define, Data}
 use Rattle.fit_step.proofs.HeaderBits.{is_some_dev, definition_bits, data_bits}
 use Rattle.fit_step.proofs.Limits.{IsLimited, AreLimited, items_of}
 use Rattle.std.proofs.Math.Nat.{div-mul-le_self}
@@ -100,7 +100,7 @@ items_none (f ∷ fields) =
     let rest : items_so_far fields (0 - f.1) ≡ 0 = ap (items_so_far fields) none ∙ items_none fields in
     omega (arith, first, rest)
 
-items_within : (fields : List (ℕ × ℕ)) (count : ℕ) → items_so_far fields count ≤ sum_by items_of fields
+pub items_within : (fields : List (ℕ × ℕ)) (count : ℕ) → items_so_far fields count ≤ sum_by items_of fields
 items_within [] count = omega arith
 items_within (f ∷ fields) count =
     let w : ℕ = item_width f.0 f.1 in
@@ -226,3 +226,15 @@ module _ {A : Type 0} (e : Environment A) (local : ℕ) (offset : Option ℕ) (p
         length-dev_layout p.dev_codes (dev_defs p.definition.dev) codes,
         length-map {B = ℕ × ℕ} p.definition.fields (λ f. (f.code, f.size)),
       )
+
+-- ---- what is made of a record in progress
+
+abbrev pub made_size : {A : Type 0} → Option (Record A) → ℕ
+made_size None = 0
+made_size (Some (Define d)) = entry_count d
+made_size (Some (Data v)) = values_size v
+
+abbrev pub IsMadeCountable : {A : Type 0} → Option (Record A) → Type 0
+IsMadeCountable None = Unit {0}
+IsMadeCountable (Some (Define d)) = (length d.fields < 256) × (length (dev_defs d.dev) < 256)
+IsMadeCountable (Some (Data v)) = values_size v ≤ 130560

@@ -27,6 +27,9 @@ pub mod WholeMessage
 pub mod ReadDefinitions
 pub mod SkippedRecords
 mod PlainMessages
+pub mod KeptMessages
+pub mod KeptSizes
+pub mod KeptRead
 pub mod Splits
 pub mod RecordFronts
 pub mod RecordsInProgress

@@ -1,5 +1,6 @@
 -- What a byte of a piece makes of a record in progress, and what was read of the piece.
-use Rattle.fit_step.proofs.Common.{◌≡◌, ℕ, ◌+◌, ◌-◌, ◌<◌, append_assoc, Bool, true, false, List, [], ◌∷◌, ◌++◌, length, take, refl, sym, ap, ◌∙◌, subst, arith}
+use Rattle.fit_step.proofs.Common.{◌≡◌, ℕ, ◌+◌, ◌-◌, ◌<◌, append_assoc, inl, Bool, true, false, List, [], ◌∷◌, ◌++◌}
+use Rattle.fit_step.proofs.Common.{length, take, refl, sym, ap, ◌∙◌, subst, arith}
 use Rattle.fit_step.proofs.Common.{Some, None, Ok, Err, Option, Result, OnOk, OnErr, take_more, Record, Environment, learn, Fits, Position, Stop, Refused}
 use Rattle.fit_step.proofs.Common.{NoMemory, State, Step, step, state_at, Steps, KeepsPart, tests_of, CanFill, IsRecord, length-take-le}
 use Rattle.fit_step.proofs.Common.{StandsAfter, IsInProgress, ReadsRecord, StandsWithRoom, RecordByte, TakesByte, ◌≤◌, slice_index}
@@ -8,7 +9,7 @@ use Rattle.fit_step.specs.inner.Whole.{StandsWhole}
 use Rattle.std.specs.Result.{is_ok}
 use Rattle.fit_step.proofs.Kept.{still_stands, still_room}
 use Rattle.fit_step.proofs.RecordsInProgress.{EndsWithRecord, starts_after, sixteen_learned, starts_where_none, goes_after, ends_after, wants_after}
-use Rattle.fit_step.proofs.RecordsInProgress.{refused_after, none_come, all_left, next_begins}
+use Rattle.fit_step.proofs.RecordsInProgress.{refused_after, none_come, all_left, next_begins, sixteen_places}
 
 -- what holds of a good answer, and of a fault
 pub when_ok : {X Y P : Type 0} (r : Result X Y) → OnOk r P → is_ok r ≡ true → P
@@ -55,9 +56,9 @@ whole_read e env room bytes piece used p in_progress r some within sixteen learn
   learned,
   k.is_record,
   k.within,
-  subst (λ f. StandsAfter f (room - length (bytes ++ take used piece)) [] (state_at p in_progress)) (sym learned)
+  inl (subst (λ f. StandsAfter f (room - length (bytes ++ take used piece)) [] (state_at p in_progress)) (sym learned)
       (subst (StandsAfter (learn e r) (room - length (bytes ++ take used piece)) []) (sym k.starts)
-      (starts_after (learn e r) (room - length (bytes ++ take used piece)) (sixteen_learned e r sixteen) k.filled)),
+      (starts_after (learn e r) (room - length (bytes ++ take used piece)) (sixteen_learned e r sixteen) k.filled))),
 )
 
 -- a record that is whole at the front of the piece, where none is in progress: the next one begins at `p`, with less room
@@ -68,8 +69,9 @@ whole_at_front {A} e env p in_progress piece r used idle k learned room bytes h 
     let all = all_left e room bytes p in_progress h idle in
     let whole : take used piece ≡ bytes ++ take used piece = ap (λ y. y ++ take used piece) (sym (none_come e room bytes p in_progress h idle)) in
     let size : length (bytes ++ take used piece) ≡ used = ap length (sym whole) ∙ length-take-le used piece k.within in
-    let sixteen : length env.places ≡ 16 = subst (λ (f : Environment A). length f.places ≡ 16) (sym learned) (sixteen_learned e r h.sixteen) in
-    let fills = subst (λ (f : Environment A). CanFill f (p.room - used)) (sym learned) (k.fills h.sixteen) in (
+    let places = sixteen_places e room bytes p in_progress h in
+    let sixteen : length env.places ≡ 16 = subst (λ (f : Environment A). length f.places ≡ 16) (sym learned) (sixteen_learned e r places) in
+    let fills = subst (λ (f : Environment A). CanFill f (p.room - used)) (sym learned) (k.fills places) in (
       k.some,
       k.within,
       learned,
@@ -82,7 +84,7 @@ whole_at_front {A} e env p in_progress piece r used idle k learned room bytes h 
 -- a byte of the piece, after those of which this is the state
 module _ {A : Type 0} (e now env : Environment A) (room : ℕ) (bytes piece : List ℕ) (i : ℕ) (p q : Position) (before after : Option (Record A))
     (within : i < length piece) (low : slice_index piece i < 256) (known : now ≡ e)
-    (come : IsInProgress now room (bytes ++ take i piece) p before) where
+    (come : StandsAfter now room (bytes ++ take i piece) (state_at p before)) where
   abbrev b : ℕ
   b = slice_index piece i
 
@@ -103,19 +105,19 @@ module _ {A : Type 0} (e now env : Environment A) (room : ℕ) (bytes piece : Li
   record_stops (Refused reason) same some made =
       let law = refused_after now room (bytes ++ take i piece) (state_at p before) come b low some reason made.1 in
       subst (λ x. ReadsRecord x env room bytes q after piece i (Err (Refused reason))) known
-      (within, made.0, subst (StandsAfter now room (bytes ++ take i piece)) (sym same) come, law.0, law.1)
+      (within, made.0, inl (subst (StandsAfter now room (bytes ++ take i piece)) (sym same) come), law.0, law.1)
   record_stops NoMemory same some made =
       let there = subst (StandsAfter now room (bytes ++ take i piece)) (sym same) come in
       subst (λ x. ReadsRecord x env room bytes q after piece i (Err NoMemory)) known (
         within,
         made.0,
-        there,
+        inl there,
         wants_after now room (bytes ++ take i piece) (state_at p before) come b low made.1,
         λ none. made.2 (ap (λ (s : State A). s.phase) (starts_where_none now room (bytes ++ take i piece) (state_at q after) there none)),
       )
 
   pub record_goes : RecordByte now env (state_at q after) b (Ok None) (step now (tests_of now) (state_at p before) b)
-      → IsInProgress env room (bytes ++ take (i + 1) piece) q after
+      → StandsAfter env room (bytes ++ take (i + 1) piece) (state_at q after)
   record_goes made =
       subst (λ x. StandsAfter x room (bytes ++ take (i + 1) piece) (state_at q after)) (sym made.0)
       (subst (λ z. StandsAfter now room z (state_at q after)) one

@@ -5,7 +5,8 @@ use Rattle.fit_step.proofs.Common.{IsBytes-back, IsBytes-none, IsBytes-tail, Rea
 use Rattle.fit_step.proofs.Common.{records_bytes, can_fill_is, same_places, MessageDef, DefinitionPhase, Reserved, Position, goes_on, Continues, NoRecord}
 use Rattle.fit_step.proofs.Common.{FillFrom, StandsAfter, IsInProgress, RecordsInProgress, IdleIsBetweenRecords, RefusedBytesHaveReasons, CanBecomeRecord}
 use Rattle.fit_step.proofs.Common.{State, Step, start, step, least_rest, Ends, RecordPart, nothing, in_definition, definition_part, part_bytes, IsPart}
-use Rattle.fit_step.proofs.Common.{state_of, state_at, Begins, record_reason, tests_of, StandsWithRoom, ◌≤◌, Option}
+use Rattle.fit_step.proofs.Common.{state_of, state_at, Begins, record_reason, tests_of, StandsWithRoom, ◌≤◌, Option, PartFitsRoom, IsKeptMessage, Phase}
+use Rattle.fit_step.proofs.Common.{RecordHeader, Definition, FieldItems, DevItems, in_fields, in_dev_fields, width_of, new_message, state}
 use Rattle.fit_step.proofs.Rest.{takes_more, keeps, KeepsRoom}
 use Rattle.fit_step.proofs.RecordFronts.{part_of_record}
 use Rattle.fit_step.proofs.Runs.{one_more}
@@ -90,10 +91,14 @@ starts_after e room sixteen fill = record {
   goes = (can_fill_is e room sixteen).1 fill;
 }
 
-pub begins_record : {A : Type 0} (e : Environment A) (p : Position) → length e.places ≡ 16 → Begins p → CanFill e p.room → IsInProgress e p.room [] p None
-begins_record {A} e p sixteen h fill =
+pub begins_stands : {A : Type 0} (e : Environment A) (p : Position) → length e.places ≡ 16 → Begins p → CanFill e p.room
+    → StandsAfter e p.room [] (state_at p None)
+begins_stands {A} e p sixteen h fill =
     let is : start p.room ≡ state_at p None = λ i. record { phase = sym h.phase i; room = p.room; in_progress = None; partial = sym h.partial i } in
     subst (StandsAfter e p.room []) is (starts_after e p.room sixteen fill)
+
+pub begins_record : {A : Type 0} (e : Environment A) (p : Position) → length e.places ≡ 16 → Begins p → CanFill e p.room → IsInProgress e p.room [] p None
+begins_record e p sixteen h fill = inl (begins_stands e p sixteen h fill)
 
 -- ---- a byte more
 
@@ -214,9 +219,48 @@ starts_where_none {A} e room bytes s h none = go h.part h.is (h.spelled ∙ none
     go (in_definition k d) is empty = absurd (some_bytes k d empty)
     go f is empty = absurd cc
 
+-- ---- whether the bytes are kept as they came
+
+-- Where fields are made, a record header is awaited only where nothing is in progress.
+pub header_idle : {A : Type 0} (phase : Phase) (room room_of : ℕ) (o : Option (Record A)) (partial : List ℕ) (f : RecordPart A)
+    → state phase room o partial ≡ state_of room_of f → phase ≡ RecordHeader → o ≡ None
+header_idle phase room room_of o partial nothing is header = ap (λ s. s.in_progress) is
+header_idle {A} phase room room_of o partial (in_definition k d) is header =
+    absurd (let other : RecordHeader ≡ Definition k = sym header ∙ ap (λ (s : State A). s.phase) is in cc)
+header_idle {A} phase room room_of o partial (in_fields local offset t dev) is header =
+    absurd (let other : RecordHeader ≡ FieldItems (length t.done) (width_of t) t.left = sym header ∙ ap (λ (s : State A). s.phase) is in cc)
+header_idle {A} phase room room_of o partial (in_dev_fields local offset items t) is header =
+    absurd (let other : RecordHeader ≡ DevItems (length t.done) (width_of t) t.left = sym header ∙ ap (λ (s : State A). s.phase) is in cc)
+
+module _ {A : Type 0} (e : Environment A) (room : ℕ) (bytes : List ℕ) (p : Position) (o : Option (Record A)) where
+  pub kept_some : IsKeptMessage e room bytes p o → o ≡ None → ⊥
+  kept_some k idle = let both : Some (Data (new_message k.header [] [])) ≡ None = sym k.message ∙ idle in cc
+
+  -- Fields are made where none are kept so,
+  pub idle_stands : IsInProgress e room bytes p o → o ≡ None → StandsAfter e room bytes (state_at p o)
+  idle_stands (inl h) idle = h
+  idle_stands (inr k) idle = absurd (kept_some k idle)
+
+  pub made_stands : IsInProgress e room bytes p o → (p.phase ≡ RecordHeader → ⊥) → StandsAfter e room bytes (state_at p o)
+  made_stands (inl h) other = h
+  made_stands (inr k) other = absurd (other k.phase)
+
+  pub part_stands : IsInProgress e room bytes p o → PartFitsRoom e (state_at p o) → StandsAfter e room bytes (state_at p o)
+  part_stands (inl h) fits = h
+  part_stands (inr k) fits = absurd (kept_some k (header_idle p.phase p.room p.room o p.partial fits.part fits.is k.phase))
+
+  -- and the bytes are kept where a record header is awaited inside a message.
+  pub kept_in_progress : IsInProgress e room bytes p o → p.phase ≡ RecordHeader → (o ≡ None → ⊥) → IsKeptMessage e room bytes p o
+  kept_in_progress (inl h) header some = absurd (some (header_idle p.phase p.room p.room o p.partial h.part h.is header))
+  kept_in_progress (inr k) header some = k
+
+  pub sixteen_places : IsInProgress e room bytes p o → length e.places ≡ 16
+  sixteen_places (inl h) = h.sixteen
+  sixteen_places (inr k) = k.sixteen
+
 -- no record is in progress just where no byte has come
 pub idle_between_records : {A : Type 0} → IdleIsBetweenRecords A
-idle_between_records {A} e room bytes p in_progress h = (
+idle_between_records {A} e room bytes p in_progress (inl h) = (
   λ idle. go h.part h.is h.spelled idle,
   λ none. ap (λ (s : State A). s.in_progress) (starts_where_none e room bytes (state_at p in_progress) h none),
 )
@@ -224,6 +268,15 @@ idle_between_records {A} e room bytes p in_progress h = (
     go : (f : RecordPart A) → state_at p in_progress ≡ state_of p.room f → part_bytes e f ≡ bytes → in_progress ≡ None → bytes ≡ []
     go nothing is spelled idle = sym spelled
     go f is spelled idle = absurd (let some = sym idle ∙ ap (λ (t : State A). t.in_progress) is in cc)
+idle_between_records {A} e room bytes p in_progress (inr k) = (
+  λ idle. absurd (kept_some e room bytes p in_progress k idle),
+  λ none. absurd (let empty : k.header ∷ k.body ≡ [] = sym k.begins ∙ none in cc),
+)
+
+pub records_in_progress : {A : Type 0} → RecordsInProgress A
+records_in_progress e room bytes p in_progress (inl h) =
+    let s = state_at p in_progress in (none_after e room bytes s h, fills_after e room bytes s h, h.total)
+records_in_progress e room bytes p in_progress (inr k) = (k.none, k.fills, k.total)
 
 -- The next record begins after some records of which all bytes came at once.
 module _ {A : Type 0} (e : Environment A) (room : ℕ) (bytes : List ℕ) (p : Position) (in_progress : Option (Record A))
@@ -232,20 +285,16 @@ module _ {A : Type 0} (e : Environment A) (room : ℕ) (bytes : List ℕ) (p : P
   none_come = (idle_between_records e room bytes p in_progress h).0 idle
 
   pub all_left : p.room ≡ room
-  all_left = omega (arith, h.total, ap length none_come)
+  all_left = omega (arith, (records_in_progress e room bytes p in_progress h).2, ap length none_come)
 
   pub next_begins : (known : Environment A) (used : ℕ) → length known.places ≡ 16 → CanFill known (p.room - used)
       → IsInProgress known (room - used) [] (record p { room = p.room - used }) in_progress
   next_begins known used sixteen fills =
       let q : Position = record p { room = p.room - used } in
-      let starts = starts_where_none e room bytes (state_at p in_progress) h none_come in
+      let starts = starts_where_none e room bytes (state_at p in_progress) (idle_stands e room bytes p in_progress h idle) none_come in
       let begins : Begins q = record { phase = ap (λ (s : State A). s.phase) starts; partial = ap (λ (s : State A). s.partial) starts } in
       subst (λ o. IsInProgress known (room - used) [] q o) (sym idle)
       (subst (λ n. IsInProgress known (n - used) [] q None) all_left (begins_record known q sixteen begins fills))
-
-pub records_in_progress : {A : Type 0} → RecordsInProgress A
-records_in_progress e room bytes p in_progress h =
-    let s = state_at p in_progress in (none_after e room bytes s h, fills_after e room bytes s h, h.total)
 
 -- ---- a byte that can't follow
 
@@ -263,12 +312,12 @@ module _ {A : Type 0} (e : Environment A) (room : ℕ) where
       let (v, k) = stands_before (front ++ b ∷ []) bytes m more u t r (goes_after e room front s h b (low zero) u made) (IsBytes-tail b bytes low) ends in
       (v, subst (λ z. StandsAfter e room z v) (one_more front b bytes) k)
 
-  room_filled : (bytes : List ℕ) → IsBytes bytes → FillFrom e room bytes → CanFill e room
+  pub room_filled : (bytes : List ℕ) → IsBytes bytes → FillFrom e room bytes → CanFill e room
   room_filled bytes are (rs, rest, rest_are, fit, spelled, total) =
       (rs, bytes ++ rest, IsBytes-append bytes rest are rest_are, (fit, sym spelled), omega (arith, total, length-append bytes rest))
 
   -- bytes that begin records that fill the room, and are no whole record, have come to a state
-  stands_somewhere : (bytes : List ℕ) → length e.places ≡ 16 → IsBytes bytes → NoRecord e bytes → FillFrom e room bytes
+  pub stands_somewhere : (bytes : List ℕ) → length e.places ≡ 16 → IsBytes bytes → NoRecord e bytes → FillFrom e room bytes
       → (u : State A) × StandsAfter e room bytes u
   stands_somewhere [] sixteen are none fill = (start room, starts_after e room sixteen (room_filled [] are fill))
   stands_somewhere (b ∷ bytes) sixteen are none ([], rest, rest_are, fit, spelled, total) = absurd cc

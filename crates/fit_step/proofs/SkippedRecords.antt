@@ -1,16 +1,20 @@
 -- What is skipped are records.
-use Rattle.fit_step.proofs.Common.{◌≡◌, cond, ℕ, zero, suc, ◌+◌, ◌<◌, ◌%◌, ◌/◌, inl, inr, Bool, true, false, List, [], ◌∷◌, ◌++◌, length, take, refl, sym, ap}
-use Rattle.fit_step.proofs.Common.{◌∙◌, subst, arith, length-append, Some, None, Option, option_and_then, option_map_or, take-add, eqb_tells, append-nil}
+use Rattle.fit_step.proofs.Common.{◌≡◌, cond, ℕ, zero, suc, ◌+◌, ◌<◌, ◌%◌, inl, inr, Bool, true, false, List, [], ◌∷◌, ◌++◌, length, take, refl, sym, ap}
+use Rattle.fit_step.proofs.Common.{◌∙◌, subst, arith, length-append, ◌/◌, Some, None, Option, option_and_then, option_map_or, take-add, eqb_tells, append-nil}
 use Rattle.fit_step.proofs.Common.{length-take-le, get_or-set_other, IsBytes, IsBytes-take, IsBytes-tail, IsBytes-cons, Defined, MessageDef, Define, Data}
 use Rattle.fit_step.proofs.Common.{Values, Environment, defined_at, defined_by, describe, described_by, description, learn, bit, has_reserved_bit}
 use Rattle.fit_step.proofs.Common.{is_definition, local_type, message_size, AllFit, record_bytes, records_bytes, IsRecord, size_to_skip, AreSizesToSkip}
-use Rattle.fit_step.proofs.Common.{HeadsMessage, IsSkipped, Learns, SkipsInSection, AreSkipped, ◌≤◌, ◌==◌, drop, slice_index, slice_set, ◌-◌, Record}
-use Rattle.fit_step.proofs.Common.{learn_all, CanFill, six_and_more, IsBytes-none, Position}
+use Rattle.fit_step.proofs.Common.{AreTogether, HasSizeOf, Record}
+use Rattle.fit_step.proofs.Common.{IsSkipped, Learns, SkipsInSection, PassesInSection, IsInProgress, AreSkipped, ◌≤◌, ◌==◌, drop, slice_index, slice_set, ◌-◌}
+use Rattle.fit_step.proofs.Common.{learn_all, CanFill, six_and_more, IsBytes-none, Position, ◌*◌, ◌⊎◌, data_header, replicate}
 use Rattle.std.specs.Prelude.{slice_index_or}
 use Rattle.std.proofs.lemmas.Grind.{get_or-set_at}
+use Rattle.std.proofs.lemmas.List.{get_or-replicate}
 use Rattle.fit_record.proofs.RecordLists.{all_fit-append, records_bytes-append, learn_all-append}
+use Rattle.fit_step.proofs.HeaderBits.{data_spelled, data_bits, DataBits}
 use Rattle.fit_step.proofs.WholeMessage.{data_read, data_record}
-use Rattle.fit_step.proofs.RecordsInProgress.{sixteen_learned, none_come, all_left, next_begins}
+use Rattle.fit_step.proofs.RecordsInProgress.{sixteen_learned, sixteen_places, none_come, all_left, next_begins}
+use Rattle.fit_step.specs.Skipping.{PassesRecords}
 use Rattle.fit_step.specs.inner.Whole.{StandsWhole}
 
 -- ---- one message
@@ -82,42 +86,110 @@ one_learned e after v y is stays = (((is.0, tt), is.1 ∙ sym (append-nil (recor
 
 -- ---- by the table of sizes
 
-low_local : (c : Bool) (b : ℕ) → cond c (b / 32 % 4) (b % 16) < 16
+pub table_skipped : {A : Type 0} (e : Environment A) (sizes bytes : List ℕ) (size b : ℕ) (rest : List ℕ) → IsBytes bytes → AreSizesToSkip e sizes
+    → 0 < size → size ≤ length bytes → bytes ≡ b ∷ rest → size ≡ slice_index sizes b → IsSkipped e e (take size bytes)
+table_skipped e sizes bytes size b rest are told some fits begins is =
+    let are_bytes : IsBytes (b ∷ rest) = subst IsBytes begins are in
+    let low : b < 256 = are_bytes zero in
+    let (clean, kind, long) = told.0 b low (omega (arith, some, is)) in
+    subst (λ l. IsSkipped e e (take size l)) (sym begins)
+    (one_skipped e b rest are_bytes clean kind size some (is ∙ long) (omega (arith, fits, ap length begins)))
+
+-- none is known
+pub no_sizes : {A : Type 0} (e : Environment A) → AreSizesToSkip e (replicate 256 0)
+no_sizes e = (
+  λ k less some. absurd (omega (arith, some, get_or-replicate {A = ℕ} 256 k 0 0 less)),
+  λ local few _ k from below. get_or-replicate {A = ℕ} 256 k 0 0 (omega (arith, few, below)),
+)
+
+pub low_local : (c : Bool) (b : ℕ) → cond c (b / 32 % 4) (b % 16) < 16
 low_local true b = omega arith
 low_local false b = omega arith
 
-pub table_skipped : {A : Type 0} (e : Environment A) (sizes bytes : List ℕ) (size local : ℕ) → IsBytes bytes → AreSizesToSkip e sizes → 0 < size
-    → size ≤ length bytes → HeadsMessage bytes local → size ≡ slice_index sizes local → IsSkipped e e (take size bytes)
-table_skipped e sizes bytes size local are told some fits (b, rest, begins, clean, kind, same) is =
-    let low : local < 16 = subst (λ n. n < 16) (sym same) (low_local (bit 7 b) b) in
-    subst (λ l. IsSkipped e e (take size l)) (sym begins)
-    (one_skipped e b rest (subst IsBytes begins are) clean kind size some (is ∙ told local low ∙ ap (size_to_skip e) same)
-    (omega (arith, fits, ap length begins)))
+-- A data message of a local message type has its number as its record header, or it and a time offset.
+headed : (local b : ℕ) (c : Bool) → data_header local (cond c (Some (b % 32)) None) ≡ b → (b ≡ local) ⊎ (b ≡ 128 + 32 * local + b % 32)
+headed local b true is = inr (omega (arith, is))
+headed local b false is = inl (sym is)
 
-pub table_more : {A : Type 0} (e : Environment A) (sizes : List ℕ) (local size : ℕ) → length sizes ≡ 16 → local < 16 → size ≡ size_to_skip e local
-    → ((k : ℕ) → k < local → slice_index sizes k ≡ size_to_skip e k)
-    → (k : ℕ) → k < local + 1 → slice_index (slice_set sizes local size) k ≡ size_to_skip e k
-table_more e sizes local size long low is told k less =
-    elim (eqb_tells k local) [
-      | inl same ↦ get_or-set_at sizes local k size 0 same.1 (omega (arith, long, low)) ∙ is ∙ ap (size_to_skip e) (sym same.1)
-      | inr other ↦ get_or-set_other sizes local k size 0 other.1 ∙ told k (omega (arith, less, other.1))
+pub heads_type : (local b : ℕ) → b < 256 → has_reserved_bit b ≡ false → is_definition b ≡ false → local_type b ≡ local
+    → (b ≡ local) ⊎ (b ≡ 128 + 32 * local + b % 32)
+heads_type local b low clean kind type =
+    subst (λ n. (b ≡ n) ⊎ (b ≡ 128 + 32 * n + b % 32)) type (headed (local_type b) b (bit 7 b) (data_spelled b low clean kind).1)
+
+pub all_away : (local b : ℕ) → b < 256 → (b ≡ local → ⊥) → (local < 4 → 128 + 32 * local ≤ b → b < 128 + 32 * local + 32 → ⊥)
+    → has_reserved_bit b ≡ false → is_definition b ≡ false → local_type b ≡ local → ⊥
+all_away local b low none gone clean kind type =
+    elim (heads_type local b low clean kind type) [
+      | inl same ↦ none same
+      | inr long ↦ gone (omega (arith, low, long)) (omega (arith, long)) (omega (arith, long))
     ]
 
--- the sizes after a definition message
-pub sizes_after : {A : Type 0} (e : Environment A) (d : MessageDef A) (sizes : List ℕ) (size : ℕ) → length sizes ≡ 16 → d.local < 16 → AreSizesToSkip e sizes
-    → size ≡ size_to_skip (learn e (Define d)) d.local
-    → AreSizesToSkip (learn e (Define d)) (slice_set sizes d.local size)
-sizes_after {A} e d sizes size long low told is k less =
-    elim (eqb_tells k d.local) [
-      | inl same ↦ get_or-set_at sizes d.local k size 0 same.1 (omega (arith, long, low)) ∙ is ∙ ap (size_to_skip (learn e (Define d))) (sym same.1)
-      | inr other ↦ get_or-set_other sizes d.local k size 0 other.1 ∙ told k less
-          ∙ size_at (learn e (Define d)) k (defined_at e k) (sym (get_or-set_other e.places d.local k (Some (defined_by e d)) None other.1))
+-- and these are all
+pub type_heads : (local b : ℕ) → local < 16 → (b ≡ local) ⊎ ((local < 4) × (128 + 32 * local ≤ b) × (b < 128 + 32 * local + 32)) → DataBits b local
+type_heads local b low (inl same) = data_bits b local None same low
+type_heads local b low (inr (few, from, below)) = data_bits b local (Some (b % 32)) (omega (arith, from, below)) (few, omega arith)
+
+-- the sizes after that of one local message type was put
+pub sizes_after : {A : Type 0} (e f : Environment A) (local size : ℕ) (old new : List ℕ) → AreSizesToSkip e old → HasSizeOf local size old new
+    → AreTogether new → (0 < size → size ≡ size_to_skip f local) → ((k : ℕ) → (k ≡ local → ⊥) → size_to_skip e k ≡ size_to_skip f k) → AreSizesToSkip f new
+sizes_after e f local size old new told put together is others = (
+  λ k less some.
+      elim (put k less) [
+        | inl n ↦ (n.0, n.1, n.3 ∙ is (omega (arith, some, n.3)) ∙ ap (size_to_skip f) (sym n.2))
+        | inr m ↦
+            elim m [
+              | inl n ↦
+                  let (clean, kind, long) = told.0 k less (omega (arith, some, n.0)) in
+                  (clean, kind, n.0 ∙ long ∙ others (local_type k) (n.1 clean kind))
+              | inr none ↦ absurd (omega (arith, some, none))
+            ]
+      ],
+  together,
+)
+
+-- One number by the local message type alone leaves those of the other record headers together.
+pub together_set : (sizes : List ℕ) (local size : ℕ) → local < 16 → AreTogether sizes → AreTogether (slice_set sizes local size)
+together_set sizes local size low together l few none k from below =
+    get_or-set_other sizes local k size 0 (λ same. omega (arith, same, low, from))
+    ∙ together l few (sym (get_or-set_other sizes local (128 + 32 * l) size 0 (λ same. omega (arith, same, low))) ∙ none) k from below
+
+-- where none is known by the others
+pub one_set : (sizes : List ℕ) (local size : ℕ) → length sizes ≡ 256 → local < 16 → AreTogether sizes
+    → (local < 4 → slice_index sizes (128 + 32 * local) ≡ 0) → HasSizeOf local size sizes (slice_set sizes local size)
+one_set sizes local size long low together none b less =
+    elim (eqb_tells b local) [
+      | inl same ↦
+          let bits = type_heads local b low (inl same.1) in
+          inl (bits.clean, bits.kind, bits.type, get_or-set_at sizes local b size 0 same.1 (omega (arith, long, low)))
+      | inr other ↦
+          let stays : slice_index (slice_set sizes local size) b ≡ slice_index sizes b = get_or-set_other sizes local b size 0 other.1 in
+          elim (eqb_tells (slice_index sizes b) 0) [
+            | inl unknown ↦ inr (inr (stays ∙ unknown.1))
+            | inr some ↦ inr (inl (
+              stays,
+              all_away local b less other.1 (λ few from below. some.1 (together local few (none few) b from below)),
+            ))
+          ]
     ]
+
+-- A definition message changes the size of its own local message type alone.
+pub others_stay : {A : Type 0} (e : Environment A) (d : MessageDef A) (k : ℕ) → (k ≡ d.local → ⊥)
+    → size_to_skip e k ≡ size_to_skip (learn e (Define d)) k
+others_stay {A} e d k other =
+    size_at (learn e (Define d)) k (defined_at e k) (sym (get_or-set_other e.places d.local k (Some (defined_by e d)) None other))
 
 -- the sizes depend on the places alone
 pub sizes_stay : {A : Type 0} (e f : Environment A) (sizes : List ℕ) → f.places ≡ e.places → AreSizesToSkip e sizes → AreSizesToSkip f sizes
-sizes_stay {A} e f sizes same told local less =
-    told local less ∙ size_at f local (defined_at e local) (sym (ap (λ (places : List (Option (Defined A))). slice_index_or places local None) same))
+sizes_stay {A} e f sizes same told = (
+  λ k less some.
+      let (clean, kind, is) = told.0 k less some in
+      let local = local_type k in (
+        clean,
+        kind,
+        is ∙ size_at f local (defined_at e local) (sym (ap (λ (places : List (Option (Defined A))). slice_index_or places local None) same)),
+      ),
+  told.1,
+)
 
 -- ---- in a data section
 
@@ -160,7 +232,7 @@ pub skipped_after : {A : Type 0} (e known : Environment A) (p : Position) (in_pr
     → SkipsInSection e p in_progress known (record p { room = p.room - used }) piece used records
 skipped_after e known p in_progress piece used records idle large learns room bytes h =
     let all = all_left e room bytes p in_progress h idle in
-    let sixteen : length known.places ≡ 16 = subst (λ k. length k.places ≡ 16) learns.1 (sixteen_all e records h.sixteen) in
+    let sixteen : length known.places ≡ 16 = subst (λ k. length k.places ≡ 16) learns.1 (sixteen_all e records (sixteen_places e room bytes p in_progress h)) in
     inr (
       none_come e room bytes p in_progress h idle,
       omega (arith, large, all),
@@ -171,3 +243,31 @@ skipped_after e known p in_progress piece used records idle large learns room by
 pub none_skipped : {A : Type 0} (e : Environment A) (p : Position) (in_progress : Option (Record A)) (piece : List ℕ)
     → SkipsInSection e p in_progress e p piece 0 []
 none_skipped e p in_progress piece room bytes h = inl (refl, refl, refl, refl)
+
+-- nothing was taken
+pub none_passed : {A : Type 0} (e : Environment A) (p : Position) (o : Option (Record A)) → PassesInSection e p o e p o [] []
+none_passed e p o room bytes h =
+    let all : room ≡ room - 0 = omega arith in ([], bytes, append-nil bytes, inl refl, ((tt, refl), refl), subst (λ m. IsInProgress e m bytes p o) all h)
+
+-- Records that are skipped are passed.
+pub skipped_passed : {A : Type 0} (e known : Environment A) (p q : Position) (piece : List ℕ) (used : ℕ) (records : List (Record A)) → used ≤ length piece
+    → SkipsInSection e p None known q piece used records → PassesInSection e p None known q None (take used piece) records
+skipped_passed {A} e known p q piece used records within skip room bytes h =
+    elim (skip room bytes h) [
+      | inl n ↦
+          let nothing : [] ≡ take used piece = ap (λ m. take m piece) (sym n.0) in
+          subst (λ y. PassesRecords e known room bytes q None y records) nothing
+          (subst (λ rs. PassesRecords e known room bytes q None [] rs) (sym n.1)
+          (subst (λ f. PassesRecords {A = A} e f room bytes q None [] []) (sym n.2)
+          (subst (λ r. PassesRecords {A = A} e e room bytes r None [] []) (sym n.3) (none_passed e p None room bytes h))))
+      | inr m ↦
+          let long = length-take-le used piece within in
+          let left : room - used ≡ room - length (take used piece) = omega (arith, long) in (
+            take used piece,
+            [],
+            ap (λ b. b ++ take used piece) m.0 ∙ sym (append-nil (take used piece)),
+            inr (omega (arith, m.1, long)),
+            m.2,
+            subst (λ n. IsInProgress known n [] q None) left m.3,
+          )
+    ]

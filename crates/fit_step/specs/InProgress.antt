@@ -1,23 +1,27 @@
 -- What has come of a record that isn't whole, and what more bytes make of it. The room is the number of bytes of the data section that
 -- were to come before the record.
-use Rattle.std.specs.Prelude.{◌≡◌, ◌↔◌, ℕ, ◌+◌, ◌-◌, ◌<◌, ◌≤◌, Bool, true, false, List, [], ◌∷◌, ◌++◌, take, length, slice_index}
+use Rattle.std.specs.Prelude.{◌≡◌, ◌↔◌, ◌⊎◌, ℕ, ◌+◌, ◌-◌, ◌^◌, ◌<◌, ◌≤◌, Bool, true, false, List, [], ◌∷◌, ◌++◌, take, length, slice_index}
 use Rattle.std.specs.Prelude.{◌*◌, sum_by, Option, Some, None, Result, Ok, Err}
+use Rattle.std.specs.Option.{option_map_or}
 use Rattle.fit_base.specs.declared.items.Items.{Items}
 use Rattle.fit_base.specs.Numbers.{IsBytes}
 use Rattle.fit_frame.specs.declared.reason.Reason.{Reason}
 use Rattle.fit_record.specs.declared.message.Record.{Record}
 use Rattle.fit_record.specs.declared.message.Record.TheVariants.{Define, Values as Data}
 use Rattle.fit_record.specs.declared.message.Values.{Values}
-use Rattle.fit_record.specs.Environment.{Environment, dev_defs, empty_environment, learn, learn_all}
+use Rattle.fit_record.specs.Environment.{Environment, defined_at, dev_defs, empty_environment, learn, learn_all}
 use Rattle.fit_record.specs.Files.{CanFill}
-use Rattle.fit_record.specs.Records.{AllFit, Fits, IsRecord, record_bytes, records_bytes}
+use Rattle.fit_record.specs.HeaderByte.{has_reserved_bit, is_definition}
+use Rattle.fit_record.specs.Records.{AllFit, Fits, IsRecord, dev_layout, layout, record_bytes, records_bytes}
 use Rattle.fit_record.specs.Sizes.{HeadsEmptyMessage, entry_count, environment_size}
+use Rattle.fit_step.specs.declared.phase.Phase.{Phase}
+use Rattle.fit_step.specs.declared.phase.Phase.TheVariants.{RecordHeader}
 use Rattle.fit_step.specs.declared.position.Position.{Position}
 use Rattle.fit_step.specs.declared.stop.Stop.{Stop}
 use Rattle.fit_step.specs.declared.stop.Stop.TheVariants.{Refused, NoMemory}
 use Rattle.fit_step.specs.GoingOn.{goes_on}
-use Rattle.fit_step.specs.Held.{held_of_record, part_size}
-use Rattle.fit_step.specs.Machine.{State, least_rest}
+use Rattle.fit_step.specs.Held.{held_of_record, items_so_far, part_size}
+use Rattle.fit_step.specs.Machine.{State, least_rest, new_message}
 use Rattle.fit_step.specs.Parts.{RecordPart, part_bytes, IsPart, state_of}
 use Rattle.fit_step.specs.Places.{state_at, Begins}
 use Rattle.fit_step.specs.Reasons.{record_reason}
@@ -44,10 +48,27 @@ pub record StandsAfter {A : Type 0} (e : Environment A) (room : ℕ) (bytes : Li
   pub rest : least_rest e s ≤ s.room
   pub goes : goes_on e s ≡ true
 
+-- The bytes are the first of a data message, and are kept as they came: no field is made of them. Records that begin with them fill the room.
+pub record IsKeptMessage {A : Type 0} (e : Environment A) (room : ℕ) (bytes : List ℕ) (p : Position) (in_progress : Option (Record A)) : Type 0 where
+  pub sixteen : length e.places ≡ 16
+  pub are_bytes : IsBytes bytes
+  pub total : p.room + length bytes ≡ room
+  pub limit : room < 2 ^ 32
+  pub header : ℕ
+  pub body : List ℕ
+  pub begins : bytes ≡ header ∷ body
+  pub clean : has_reserved_bit header ≡ false
+  pub kind : is_definition header ≡ false
+  pub phase : p.phase ≡ RecordHeader
+  pub partial : p.partial ≡ bytes
+  pub message : in_progress ≡ Some (Data (new_message header [] []))
+  pub none : NoRecord e bytes
+  pub fills : FillFrom e room bytes
+
 -- These bytes have come of a record that isn't whole, or none have, and records that begin with them can fill the room. A caller hands
 -- the position and the record in progress back as it got them; what follows for it is in the laws.
 abbrev pub IsInProgress : {A : Type 0} → Environment A → ℕ → List ℕ → Position → Option (Record A) → Type 0
-IsInProgress e room bytes p in_progress = StandsAfter e room bytes (state_at p in_progress)
+IsInProgress e room bytes p in_progress = StandsAfter e room bytes (state_at p in_progress) ⊎ IsKeptMessage e room bytes p in_progress
 
 -- Some bytes of a record have come, or none, and the data section isn't over.
 abbrev pub AwaitsByte : {A : Type 0} → Environment A → Position → Option (Record A) → Type 0
@@ -97,16 +118,27 @@ items_in fields = sum_by (λ i. length i.bits) fields
 abbrev pub values_size : {A : Type 0} → Values A → ℕ
 values_size v = length v.fields + length v.dev + items_in v.fields + items_in v.dev
 
-abbrev pub in_progress_size : {A : Type 0} → Option (Record A) → ℕ
-in_progress_size None = 0
-in_progress_size (Some (Define d)) = entry_count d
-in_progress_size (Some (Data v)) = values_size v
+-- Of a data message of which that many bytes are kept as they came, the fields and developer fields of its definition, and the items that are
+-- whole in them.
+abbrev pub kept_size : {A : Type 0} → Environment A → ℕ → ℕ → ℕ
+kept_size e local count =
+    option_map_or (λ p. entry_count p.definition + items_so_far (layout p ++ dev_layout p) (count - 1)) (defined_at e local) 0
+
+-- of a data message in progress, where the next byte is this, and that many bytes are kept
+abbrev pub message_held : {A : Type 0} → Environment A → Phase → ℕ → Values A → ℕ
+message_held e RecordHeader count v = kept_size e v.local count
+message_held e phase count v = values_size v
+
+abbrev pub in_progress_size : {A : Type 0} → Environment A → Position → Option (Record A) → ℕ
+in_progress_size e p None = 0
+in_progress_size e p (Some (Define d)) = entry_count d
+in_progress_size e p (Some (Data v)) = message_held e p.phase (length p.partial) v
 
 -- so few that they can be counted
-abbrev pub IsCountable : {A : Type 0} → Option (Record A) → Type 0
-IsCountable None = Unit {0}
-IsCountable (Some (Define d)) = (length d.fields < 256) × (length (dev_defs d.dev) < 256)
-IsCountable (Some (Data v)) = values_size v ≤ 130560
+abbrev pub IsCountable : {A : Type 0} → Environment A → Position → Option (Record A) → Type 0
+IsCountable e p None = Unit {0}
+IsCountable e p (Some (Define d)) = (length d.fields < 256) × (length (dev_defs d.dev) < 256)
+IsCountable e p (Some (Data v)) = message_held e p.phase (length p.partial) v ≤ 130560
 
 -- ---- laws
 
@@ -135,8 +167,9 @@ abbrev pub HeldIsOfBytes : Type 0 → Type 0
 HeldIsOfBytes A = (records : List (Record A)) (room : ℕ) (bytes : List ℕ) (p : Position) (in_progress : Option (Record A))
     → AllFit empty_environment records → IsBytes (records_bytes empty_environment records)
     → IsInProgress (learn_all empty_environment records) room bytes p in_progress
-    → IsCountable in_progress × (in_progress_size in_progress ≡ held_of_record (learn_all empty_environment records) bytes)
-    × (in_progress_size in_progress ≤ part_size (learn_all empty_environment records) bytes)
+    → IsCountable (learn_all empty_environment records) p in_progress
+    × (in_progress_size (learn_all empty_environment records) p in_progress ≡ held_of_record (learn_all empty_environment records) bytes)
+    × (in_progress_size (learn_all empty_environment records) p in_progress ≤ part_size (learn_all empty_environment records) bytes)
 
 -- Records define and describe, and some bytes of a record allow, no more than the format has room for.
 abbrev pub HeldIsLimited : Type 0 → Type 0

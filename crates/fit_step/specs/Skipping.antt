@@ -1,5 +1,6 @@
 -- Records that are skipped.
-use Rattle.std.specs.Prelude.{◌≡◌, ◌⊎◌, ℕ, ◌+◌, ◌-◌, ◌==◌, if◌then◌else◌, false, List, [], ◌∷◌, ◌<◌, ◌≤◌, take, length, slice_index, Option, None, IfSome}
+use Rattle.std.specs.Prelude.{◌≡◌, ◌⊎◌, ℕ, ◌+◌, ◌-◌, ◌*◌, ◌==◌, if◌then◌else◌, false, List, [], ◌∷◌, ◌++◌, ◌<◌, ◌≤◌, take, length, slice_index}
+use Rattle.std.specs.Prelude.{Option, None, IfSome}
 use Rattle.std.specs.Option.{option_map_or}
 use Rattle.fit_record.specs.declared.definition.MessageDef.{MessageDef}
 use Rattle.fit_record.specs.declared.message.Values.{Values}
@@ -28,6 +29,19 @@ abbrev pub SkipsInSection : {A : Type 0} → Environment A → Position → Opti
 SkipsInSection old before in_progress new after piece used records =
     (room : ℕ) (bytes : List ℕ) → IsInProgress old room bytes before in_progress → SkipsRecords old new room bytes before after in_progress piece used records
 
+-- The bytes that had come and those taken are those of the records, and then some of a record in progress, or none. Where there are records,
+-- at least six bytes of the room are to come after them.
+abbrev pub PassesRecords : {A : Type 0} → Environment A → Environment A → ℕ → List ℕ → Position → Option (Record A) → List ℕ → List (Record A) → Type 0
+PassesRecords old new room bytes after in_progress taken records =
+    (whole : List ℕ) × (part : List ℕ) × (bytes ++ taken ≡ whole ++ part) × ((records ≡ []) ⊎ (length whole + 6 ≤ room))
+    × Learns old new whole records × IsInProgress new (room - length whole) part after in_progress
+
+-- the same, whatever has come
+abbrev pub PassesInSection : {A : Type 0} → Environment A → Position → Option (Record A) → Environment A → Position → Option (Record A) → List ℕ
+    → List (Record A) → Type 0
+PassesInSection old before idle new after in_progress taken records =
+    (room : ℕ) (bytes : List ℕ) → IsInProgress old room bytes before idle → PassesRecords old new room bytes after in_progress taken records
+
 -- A data message of this size stands at the front of the bytes, and is no field description.
 abbrev pub HasMessage : {A : Type 0} → Environment A → List ℕ → ℕ → Type 0
 HasMessage {A} e bytes size =
@@ -43,9 +57,29 @@ HasDefinition {A} e bytes size = (d : MessageDef A) × (size ≤ length bytes) �
 abbrev pub size_to_skip : {A : Type 0} → Environment A → ℕ → ℕ
 size_to_skip e local = option_map_or (λ p. if p.definition.global == 206 then 0 else 1 + message_size p) (defined_at e local) 0
 
--- the same of each local message type
+-- by the record header of a data message, the same, or 0 where it isn't known; 0 by any other byte
+abbrev pub AreSizes : {A : Type 0} → Environment A → List ℕ → Type 0
+AreSizes e sizes =
+    (b : ℕ) → b < 256 → 0 < slice_index sizes b
+    → (has_reserved_bit b ≡ false) × (is_definition b ≡ false) × (slice_index sizes b ≡ size_to_skip e (local_type b))
+
+-- Where it isn't known by the first of the record headers of a local message type that have a time offset, it isn't known by any of them.
+abbrev pub AreTogether : List ℕ → Type 0
+AreTogether sizes =
+    (local : ℕ) → local < 4 → slice_index sizes (128 + 32 * local) ≡ 0
+    → (b : ℕ) → 128 + 32 * local ≤ b → b < 128 + 32 * local + 32 → slice_index sizes b ≡ 0
+
+-- both
 abbrev pub AreSizesToSkip : {A : Type 0} → Environment A → List ℕ → Type 0
-AreSizesToSkip e sizes = (local : ℕ) → local < 16 → slice_index sizes local ≡ size_to_skip e local
+AreSizesToSkip e sizes = AreSizes e sizes × AreTogether sizes
+
+-- By each record header of a data message of this local message type it is this, or 0, and elsewhere it is as it was, or 0.
+abbrev pub HasSizeOf : ℕ → ℕ → List ℕ → List ℕ → Type 0
+HasSizeOf local size old new =
+    (b : ℕ) → b < 256
+    → ((has_reserved_bit b ≡ false) × (is_definition b ≡ false) × (local_type b ≡ local) × (slice_index new b ≡ size))
+    ⊎ ((slice_index new b ≡ slice_index old b) × (has_reserved_bit b ≡ false → is_definition b ≡ false → local_type b ≡ local → ⊥))
+    ⊎ (slice_index new b ≡ 0)
 
 -- The bytes are those of one record, with which what is known becomes `after`.
 abbrev pub IsSkipped : {A : Type 0} → Environment A → Environment A → List ℕ → Type 0

@@ -7,3 +7,4 @@ pub mod Repeated
 pub mod Definitions
 pub mod Whole
 pub mod ByBytes
+pub mod Short

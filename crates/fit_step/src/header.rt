@@ -51,6 +51,18 @@ pub(crate) fn new_message<A: Allocator + Copy>(
     })
 }
 
+/// The data message that it begins, of which no field is made. It takes no memory.
+pub(crate) fn unmade_message<A: Allocator + Copy>(alloc: A, byte: u8) -> Values<A>
+    ensures { result ≡ new_message byte [] [] }
+{
+    Values {
+        local: local_type(byte),
+        offset: time_offset(byte),
+        fields: Entries::new(alloc),
+        dev: Entries::new(alloc),
+    }
+}
+
 /// A field without items, and memory for those that its size gives. For a lone one none is taken, nor is its size divided.
 #[inline(always)]
 fn empty_items<A: Allocator>(alloc: A, code: u8, size: u8) -> Result<Items<A>, AllocError>

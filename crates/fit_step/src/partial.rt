@@ -1,9 +1,9 @@
-//! The bytes of a number that isn't whole.
-ghost use Rattle.std.specs.Prelude.{◌≡◌, ◌<◌, [], ◌∷◌, ◌++◌, length};
+//! The bytes of a number that isn't whole, or the first bytes of a short data message.
+ghost use Rattle.std.specs.Prelude.{◌≡◌, ◌+◌, ◌<◌, ◌≤◌, [], ◌∷◌, ◌++◌, length};
 
 use std::marker::Model;
 
-/// The bytes of a number that have come so far, at most eight.
+/// The bytes of a number that have come so far, or of a short data message, at most eight.
 #[derive(Drop)]
 pub struct Partial {
     bytes: [u8; 8],
@@ -43,8 +43,10 @@ impl Partial {
 
     /// How many bytes there are.
     pub(crate) fn len(&self) -> usize
-        ensures { result ≡ length self.now }
+        ensures length { result ≡ length self.now }
+        ensures few { result ≤ 8 }
     {
+        let _count = &self.count;
         self.as_slice().len()
     }
 
@@ -66,6 +68,18 @@ impl Partial {
             bytes,
             count: self.count + 1,
         }
+    }
+
+    /// These bytes, and more after them.
+    pub(crate) fn followed_by(&self, more: &[u8]) -> Partial
+        requires { length self.now + length more.now ≤ 8 }
+        ensures { result ≡ self.now ++ more.now }
+    {
+        let mut all = self.copied();
+        for byte in more {
+            all.push(*byte);
+        }
+        all
     }
 
     /// Puts a byte at the end.

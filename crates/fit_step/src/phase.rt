@@ -17,7 +17,8 @@ pub enum DefinitionPhase {
     DevIndex { left: u8, number: u8, size: u8 },
 }
 
-/// What the next byte of a record is.
+/// What the next byte of a record is. It is called a record header also inside a short data message of which the bytes are kept as they
+/// came: then the record in progress tells that it isn't one.
 ///
 /// In a data message `place` is that of the field or developer field that is read, `width` the width of its items, and
 /// `left` counts its bytes that are to come.

@@ -1,10 +1,10 @@
 //! The bytes of a piece that belong to a record.
-ghost use Rattle.std.specs.Prelude.{◌≡◌, ℕ, ◌+◌, ◌<◌, ◌≤◌, length, OnErr, Ok, None, Some, true, false, IfNone, IfOk, IfSome, IsSomeAnd};
+ghost use Rattle.std.specs.Prelude.{◌≡◌, ℕ, ◌+◌, ◌^◌, ◌<◌, ◌≤◌, length, List, OnErr, Ok, None, Some, true, false, IfNone, IfOk, IfSome, IsSomeAnd};
 ghost use Rattle.fit_record.specs.declared.message.Record.{Record};
 ghost use Rattle.fit_record.specs.declared.message.Record.TheVariants.{Define, Values as Data};
 ghost use Rattle.fit_record.specs.Environment.{DescribesNothing, Environment, learn};
 ghost use Rattle.fit_record.specs.Records.{Fits};
-ghost use Rattle.fit_step.specs.InProgress.{AwaitsByte, Reads, ReadsInPlace};
+ghost use Rattle.fit_step.specs.InProgress.{AwaitsByte, IsKeptMessage, Reads, ReadsInPlace};
 ghost use Rattle.fit_step.specs.Machine.{step};
 ghost use Rattle.fit_step.specs.Places.{state_at};
 ghost use Rattle.fit_step.specs.Skipping.{HasDefinition, HasMessage};
@@ -18,7 +18,7 @@ use crate::one_byte::step;
 use crate::read_definition::{read_fields, with_fields};
 use crate::undone::undo;
 use crate::whole::{last_definition, learn_copy, plain_definition, plain_message, whole_message};
-use crate::{Position, Stop};
+use crate::{Phase, Position, Stop};
 use fit_record::{Env, MessageDef, Record, Values};
 use std::alloc::{AllocError, Allocator};
 
@@ -103,6 +103,8 @@ fn scan_bytes<A: Allocator + Copy>(
     ensures within { result.0 ≤ length piece.now }
     ensures reads { ReadsInPlace env.old position.old in_progress.old env.new position.new
         in_progress.new piece.now result.0 result.1 }
+    ensures stands { result.1 ≡ Ok false
+        → StandsWithRoom env.new (state_at position.new in_progress.new) }
 {
     for (i, byte) in piece.iter().enumerate() {
         match take_byte(alloc, env, position, in_progress, *byte) {
@@ -277,6 +279,42 @@ fn read_anew<A: Allocator + Copy>(
     }
 }
 
+/// Makes the fields of a short data message of which the bytes are kept as they came, and does what `scan_bytes` does.
+#[cold]
+#[inline(never)]
+fn read_kept<A: Allocator + Copy>(
+    alloc: A,
+    env: &mut Env<A>,
+    position: &mut Position,
+    in_progress: &mut Option<Record<A>>,
+    piece: &[u8],
+) -> (usize, Result<bool, Stop>)
+    requires room { position.old.room + length position.old.partial < 2 ^ 32 }
+    requires kept { (room : ℕ) × (bytes : List ℕ)
+        × IsKeptMessage env.old room bytes position.old in_progress.old }
+    ensures within { result.0 ≤ length piece.now }
+    ensures reads { ReadsInPlace env.old position.old in_progress.old env.new position.new
+        in_progress.new piece.now result.0 result.1 }
+{
+    if piece.is_empty() {
+        return (0, Ok(false));
+    }
+    let kept = position.partial.as_slice();
+    let mut made = None;
+    let mut after = Position::new(position.room + kept.len() as u32);
+    let (_, answer) = scan_bytes(alloc, env, &mut after, &mut made, kept);
+    match answer {
+        Ok(false) => {
+            *position = after;
+            *in_progress = made;
+            scan_bytes(alloc, env, position, in_progress, piece)
+        }
+        Ok(true) => unreachable!(),
+        Err(Stop::NoMemory) => (0, Err(Stop::NoMemory)),
+        Err(Stop::Refused(_)) => unreachable!(),
+    }
+}
+
 /// Reads the bytes of a record, of which some may have come: how many of the piece were used, and whether it is complete. A complete
 /// record is learned and stays in `in_progress`, which the caller empties; the next one begins after it.
 ///
@@ -294,8 +332,12 @@ pub fn read_in_place<A: Allocator + Copy>(
     ensures reads { ReadsInPlace env.old position.old in_progress.old env.new position.new
         in_progress.new piece.now result.0 result.1 }
 {
-    if in_progress.is_some() {
-        return scan_bytes(alloc, env, position, in_progress, piece);
+    match in_progress {
+        Some(_) => match position.phase {
+            Phase::RecordHeader => return read_kept(alloc, env, position, in_progress, piece),
+            _ => return scan_bytes(alloc, env, position, in_progress, piece),
+        },
+        None => {}
     }
     read_anew(alloc, env, position, in_progress, piece)
 }

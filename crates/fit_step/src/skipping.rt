@@ -1,81 +1,28 @@
 //! Records that a reader skips: it counts them and learns what they define and describe, and makes no record of data messages.
-ghost use Rattle.std.specs.Prelude.{◌≡◌, ℕ, ◌<◌, ◌≤◌, ◌+◌, IfSome, None, List, [], ◌∷◌, length, slice_index, take};
+ghost use Rattle.std.specs.Prelude.{◌≡◌, ℕ, ◌<◌, ◌≤◌, ◌+◌, None, List, [], ◌∷◌, length, take};
 ghost use Rattle.fit_record.specs.declared.message.Values.{Values};
 ghost use Rattle.fit_record.specs.declared.message.Record.{Record};
 ghost use Rattle.fit_record.specs.declared.message.Record.TheVariants.{Values as Data};
-ghost use Rattle.fit_step.specs.Skipping.{size_to_skip, AreSizesToSkip, HeadsMessage, HasMessage, IsSkipped, AreSkipped, Learns, SkipsInSection};
+ghost use Rattle.fit_step.specs.Skipping.{AreSizesToSkip, HasMessage, IsSkipped, AreSkipped, Learns, PassesInSection, SkipsInSection};
 
-use crate::Position;
-use crate::by_bytes::learn_message;
-use crate::header::{has_reserved_bit, is_definition, local_type};
+use crate::by_bytes::{learn_any, learn_message};
+use crate::header::is_definition;
+use crate::known_sizes::{message_to_skip, message_type, put_its_size, put_size, small_size};
 use crate::read_definition::{definition_bytes, read_fields, with_fields};
 use crate::repeated::is_known;
+use crate::short::{cut_size, keep_first, take_more};
 use crate::whole::{next_message, plain_message};
-use fit_record::{Env, FIELD_DESCRIPTION, Record};
+use crate::{Phase, Position};
+use fit_record::{Env, Record};
 use std::alloc::Allocator;
-
-/// How many bytes a data message of a local message type has, or 0 where it may describe a developer field or isn't defined.
-fn size_to_skip<A: Allocator>(env: &Env<A>, local: u8) -> u32
-    ensures { result ≡ size_to_skip env.now local }
-{
-    let Some(defined) = env.defined(local) else {
-        return 0;
-    };
-    let Some(size) = env.length(local) else {
-        return 0;
-    };
-    if defined.definition.global == FIELD_DESCRIPTION {
-        0
-    } else {
-        1 + size
-    }
-}
-
-/// How many bytes a data message of each local message type has, or 0 as of one.
-fn sizes_to_skip<A: Allocator>(env: &Env<A>) -> [u32; 16]
-    ensures { AreSizesToSkip env.now result }
-{
-    let mut sizes = [0; 16];
-    for local in 0..16 {
-        sizes[local as usize] = size_to_skip(env, local);
-    }
-    sizes
-}
-
-/// The local message type of the data message that the first byte heads, if it heads one.
-#[inline(always)]
-fn message_type(bytes: &[u8]) -> Option<u8>
-    ensures { IfSome result (HeadsMessage bytes.now) }
-{
-    let byte = *bytes.first()?;
-    if has_reserved_bit(byte) || is_definition(byte) {
-        return None;
-    }
-    Some(local_type(byte))
-}
-
-/// How many bytes the data message has that begins these bytes, where it may be skipped and all of it stands there, or else 0.
-fn message_to_skip(sizes: &[u32; 16], bytes: &[u8]) -> usize
-    ensures within { result ≤ length bytes.now }
-    ensures heads { 0 < result → (local : ℕ) × HeadsMessage bytes.now local
-        × (result ≡ slice_index sizes.now local) }
-{
-    let Some(local) = message_type(bytes) else {
-        return 0;
-    };
-    let size = sizes[local as usize] as usize;
-    if size > bytes.len() {
-        return 0;
-    }
-    size
-}
 
 /// Learns the definition message that begins these bytes, where all of it stands there and it has no developer fields: how many
 /// bytes it has, or else 0. One that is known already takes no memory.
+#[inline(always)]
 fn skip_definition<A: Allocator + Copy>(
     alloc: A,
     env: &mut Env<A>,
-    sizes: &mut [u32; 16],
+    sizes: &mut [u16; 256],
     bytes: &[u8],
 ) -> usize
     requires { AreSizesToSkip env.old sizes.old }
@@ -98,15 +45,47 @@ fn skip_definition<A: Allocator + Copy>(
         Ok(()) => {}
         Err(_) => return 0,
     }
-    sizes[front.local as usize] = size_to_skip(env, front.local);
+    put_size(sizes, front.local, small_size(env, front.local));
     size
 }
 
+/// Skips the data message that begins these bytes: how many bytes it has, or 0 where none does. It stands apart, since of most messages the
+/// size is known.
+#[inline(never)]
+fn skip_message<A: Allocator + Copy>(
+    env: &mut Env<A>,
+    sizes: &mut [u16; 256],
+    bytes: &[u8],
+) -> usize
+    requires { AreSizesToSkip env.old sizes.old }
+    ensures within { result ≤ length bytes.now }
+    ensures sizes { AreSizesToSkip env.new sizes.new }
+    ensures none { result ≡ 0 → env.new ≡ env.old }
+    ensures skipped { 0 < result → IsSkipped env.old env.new (take result bytes.now) }
+{
+    let (size, is_plain) = learn_any(env, bytes);
+    if is_plain {
+        put_its_size(env, sizes, bytes);
+        return size;
+    }
+    size
+}
+
+/// Whether a definition message begins these bytes.
+#[inline(always)]
+fn begins_definition(bytes: &[u8]) -> bool {
+    match bytes.first() {
+        Some(byte) => is_definition(*byte),
+        None => false,
+    }
+}
+
 /// Skips the record that begins these bytes: how many bytes it has, or 0 where it is none to be skipped.
+#[inline(always)]
 fn skip_record<A: Allocator + Copy>(
     alloc: A,
     env: &mut Env<A>,
-    sizes: &mut [u32; 16],
+    sizes: &mut [u16; 256],
     bytes: &[u8],
 ) -> usize
     requires { AreSizesToSkip env.old sizes.old }
@@ -119,11 +98,10 @@ fn skip_record<A: Allocator + Copy>(
     if size > 0 {
         return size;
     }
-    let defined = skip_definition(alloc, env, sizes, bytes);
-    if defined > 0 {
-        return defined;
+    if begins_definition(bytes) {
+        return skip_definition(alloc, env, sizes, bytes);
     }
-    learn_message(env, bytes)
+    skip_message(env, sizes, bytes)
 }
 
 /// Skips complete records at the front of these bytes: how many bytes they have, and how many they are. What they define and describe is
@@ -135,17 +113,19 @@ fn skip_records<A: Allocator + Copy>(alloc: A, env: &mut Env<A>, bytes: &[u8]) -
     ensures within { result.0 ≤ length bytes.now }
     ensures records { AreSkipped env.old env.new (take result.0 bytes.now) result.1 }
 {
-    let mut sizes = sizes_to_skip(env);
+    let mut sizes = [0; 256];
     let mut used = 0;
-    for count in 0..bytes.len() {
+    let mut count = 0;
+    while used < bytes.len() {
         let (_, rest) = bytes.split_at(used);
         let size = skip_record(alloc, env, &mut sizes, rest);
         if size == 0 {
-            return (used, count as u64);
+            return (used, count);
         }
         used += size;
+        count += 1;
     }
-    (used, bytes.len() as u64)
+    (used, count)
 }
 
 /// The bytes of a piece that come before the last six of that many.
@@ -163,31 +143,73 @@ fn before_last_six(room: u32, piece: &[u8]) -> &[u8]
 
 /// Skips complete records at the front of the piece, where a record begins and at least six bytes of the data section are to come
 /// after them: how many bytes they have, and how many they are. What they define and describe is learned.
+#[inline(always)]
+fn skip_whole<A: Allocator + Copy>(
+    alloc: A,
+    env: &mut Env<A>,
+    position: &mut Position,
+    piece: &[u8],
+) -> (usize, u64)
+    requires { 6 ≤ position.old.room }
+    ensures within { result.0 ≤ length piece.now }
+    ensures skips { (records : List (Record A)) × (length records ≡ result.1)
+        × SkipsInSection env.old position.old None env.new position.new
+        piece.now result.0 records }
+{
+    let front = before_last_six(position.room, piece);
+    let (used, count) = skip_records(alloc, env, front);
+    position.room -= used as u32;
+    (used, count)
+}
+
+/// Whether a piece is too short for the definition message that it begins with, or has no bytes at all.
+#[inline(always)]
+fn holds_no_definition(piece: &[u8]) -> bool {
+    match piece.first() {
+        Some(byte) => piece.len() < 6 && is_definition(*byte),
+        None => true,
+    }
+}
+
+/// Skips complete records at the front of the piece, where a record begins and at least six bytes of the data section are to come
+/// after them, and takes bytes of a data message of at most eight that the piece cuts: how many bytes it takes of the piece, and how many
+/// records are complete with them. What they define and describe is learned.
 ///
-/// It ends where `Decoder::skip_records` of `fit_decode` does.
+/// The bytes of such a message are kept as they came, and no field is made of them. It ends where `Decoder::skip_records` of `fit_decode`
+/// does.
 pub fn skip_in_section<A: Allocator + Copy>(
     alloc: A,
     env: &mut Env<A>,
     position: &mut Position,
-    in_progress: &Option<Record<A>>,
+    in_progress: &mut Option<Record<A>>,
     piece: &[u8],
 ) -> (usize, u64)
     ensures within { result.0 ≤ length piece.now }
-    ensures skips { (records : List (Record A)) × (length records ≡ result.1)
-        × SkipsInSection env.old position.old in_progress.now env.new position.new
-        piece.now result.0 records }
+    ensures passes { (records : List (Record A)) × (length records ≡ result.1)
+        × PassesInSection env.old position.old in_progress.old env.new position.new
+        in_progress.new (take result.0 piece.now) records }
 {
     match in_progress {
-        Some(_) => return (0, 0),
+        Some(_) => match position.phase {
+            Phase::RecordHeader => return take_more(env, position, in_progress, piece),
+            _ => return (0, 0),
+        },
         None => {}
     }
     if position.room < 6 {
         return (0, 0);
     }
-    let front = before_last_six(position.room, piece);
-    let (used, count) = skip_records(alloc, env, front);
-    position.room -= used as u32;
-    (used, count)
+    let size = cut_size(env, piece);
+    if size > 0 {
+        return (
+            keep_first(alloc, env, position, in_progress, size, piece),
+            0,
+        );
+    }
+    if holds_no_definition(piece) {
+        return (0, 0);
+    }
+    skip_whole(alloc, env, position, piece)
 }
 
 /// How many bytes the data message has that begins the piece, where a record begins, it is no field description, and at least six

@@ -107,11 +107,11 @@ joined-words_from (suc k) i bytes h =
     ∙ ap bytes_number (sym (take-add 8 (8 * k) rest))
     ∙ ap (λ n. bytes_number (take n rest)) (sym count)
 
--- the sixteen words of a block
-pub joined-block : (block : List ℕ) → length block ≡ 128 → joined (words_from 0 16 block) ≡ bytes_number block
-joined-block block n =
-    let all : length block ≤ 128 = omega arith in
-    joined-words_from 16 0 block (omega arith) ∙ ap bytes_number (take_all 128 block all)
+-- all words of a block
+pub joined-block : (count : ℕ) (block : List ℕ) → length block ≡ 8 * count → joined (words_from 0 count block) ≡ bytes_number block
+joined-block count block n =
+    let all : length block ≤ 8 * count = omega (arith, n) in
+    joined-words_from count 0 block (omega (arith, n)) ∙ ap bytes_number (take_all (8 * count) block all)
 
 -- ---- words added to words
 pub joined-mix : (xs ys : List ℕ) → length xs ≡ length ys → IsWords xs → IsWords ys → joined (mix xs ys) ≡ bit_xor (joined xs) (joined ys)

@@ -17,4 +17,5 @@ pub use Rattle.fit_sum.specs.Checksum.{add_to_front, divisor, remainder, low_bit
 unfoldable pub use Rattle.fit_sum.specs.Checksum.{checksum}
 pub use Rattle.fit_sum.specs.inner.Register.{AllBytes, IsSumOf}
 unfoldable pub use Rattle.fit_sum.specs.inner.Register.{shifts, run, shift}
+pub use Rattle.fit_sum.specs.inner.Words.{AllPairs}
 unfoldable pub use Rattle.fit_sum.specs.inner.Words.{bytes_number, words_from, mix, turns, spelled, xor_into, turn}

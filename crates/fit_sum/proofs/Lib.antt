@@ -12,4 +12,5 @@ mod DivisorPower
 mod TurnsAreShifts
 mod BytesOfWords
 mod SpelledWords
+mod PairsOfWords
 mod BlocksOfWords

@@ -1,7 +1,6 @@
 -- Words spelled as bytes.
-use Rattle.fit_sum.proofs.Common.{◌≡◌, ℕ, ◌+◌, ◌*◌, ◌^◌, ◌<◌, List, [], ◌∷◌, ◌++◌, length, take, get_or, refl, ap, sym, ◌∙◌, arith, add-one, append_assoc}
-use Rattle.fit_sum.proofs.Common.{to_le_bytes, w64, take-suc, from_le_bytes-to_le_bytes_8, append-nil, run, AllBytes, bytes_number, spelled}
-use Rattle.fit_sum.proofs.Division.{run-append}
+use Rattle.fit_sum.proofs.Common.{◌≡◌, ℕ, ◌+◌, ◌*◌, ◌^◌, ◌<◌, List, [], ◌∷◌, ◌++◌, length, refl, ap, sym, ◌∙◌, arith, append_assoc}
+use Rattle.fit_sum.proofs.Common.{to_le_bytes, w64, from_le_bytes-to_le_bytes_8, run, AllBytes, bytes_number, spelled}
 use Rattle.fit_sum.proofs.RegisterOfAdded.{IsBytes-append}
 use Rattle.fit_sum.proofs.TurnsAreShifts.{IsWords, joined}
 use Rattle.fit_sum.proofs.BytesOfWords.{number-none, number-eight, number-append}
@@ -30,7 +29,7 @@ number-spelled (w ∷ words) h =
     ∙ ap (λ n. n + 2 ^ 64 * bytes_number (spelled words)) (number-word w h.0)
     ∙ ap (λ n. w + 2 ^ 64 * n) (number-spelled words h.1)
 
-spelled-append : (xs ys : List ℕ) → spelled (xs ++ ys) ≡ spelled xs ++ spelled ys
+pub spelled-append : (xs ys : List ℕ) → spelled (xs ++ ys) ≡ spelled xs ++ spelled ys
 unfolding spelled
 spelled-append [] ys = refl
 spelled-append (x ∷ xs) ys = ap (λ t. to_le_bytes w64 x ++ t) (spelled-append xs ys) ∙ sym (append_assoc (to_le_bytes w64 x) (spelled xs) (spelled ys))
@@ -38,11 +37,3 @@ spelled-append (x ∷ xs) ys = ap (λ t. to_le_bytes w64 x ++ t) (spelled-append
 pub spelled-none : 0 ≡ run 0 (spelled [])
 unfolding run spelled
 spelled-none = refl
-
--- one word more
-pub spelled-turn : (register : ℕ) (words : List ℕ) (i : ℕ) → i < length words
-    → run register (spelled (take (i + 1) words)) ≡ run (run register (spelled (take i words))) (to_le_bytes w64 (get_or words i 0))
-unfolding spelled
-spelled-turn register words i h =
-    rw (add-one, take-suc words i 0 h, spelled-append, append-nil)
-    (run-append register (spelled (take i words)) (to_le_bytes w64 (get_or words i 0)))

@@ -4,6 +4,7 @@
 mod slices;
 mod sum;
 mod tables;
+mod wide;
 mod words;
 
 pub use crate::sum::{Sum, checksum_of};

@@ -3,12 +3,13 @@
 //! Over 0 and 1 the divisor x^16 + x^15 + x^2 + 1 to the power 64 is
 //! x^1024 + x^960 + x^128 + 1. So the register of sixteen bits may be one of sixteen words: the
 //! word that is shifted out goes into three places, and no table is needed.
-ghost use Rattle.std.specs.Prelude.{◌≡◌, ◌<◌, ◌++◌, ◌*◌, take, drop};
+ghost use Rattle.std.specs.Prelude.{◌≡◌, ◌<◌, ◌≤◌, ◌++◌, ◌*◌, length, take, drop};
 ghost use Rattle.std.specs.List.{concat};
 ghost use Rattle.fit_sum.specs.inner.Register.{run, AllBytes};
 ghost use Rattle.fit_sum.specs.inner.Words.{bytes_number, turns, words_from, mix, spelled};
 
 use crate::slices::{add_by_eights, add_eight};
+use crate::wide::add_longest;
 
 /// Word `at` of a block, its lowest byte first.
 #[inline]
@@ -58,7 +59,7 @@ fn mixed(register: &[u64; 16], block: &[u8; 128]) -> [u64; 16]
 /// What the register holds once all its sixteen words were shifted out.
 #[inline]
 fn shifted(register: &[u64; 16]) -> [u64; 16]
-    ensures { result ≡ turns 16 register.now }
+    ensures { result ≡ turns 0 13 16 register.now }
 {
     let w0 = register[0];
     let w1 = register[1] ^ w0;
@@ -96,13 +97,39 @@ fn shifted(register: &[u64; 16]) -> [u64; 16]
     ]
 }
 
+/// The bytes of the words, eight for each.
+#[inline]
+fn bytes_of(words: &[u64; 16]) -> [[u8; 8]; 16]
+    ensures bytes { concat result ≡ spelled words.now }
+    ensures count { length result ≡ 16 }
+{
+    [
+        words[0].to_le_bytes(),
+        words[1].to_le_bytes(),
+        words[2].to_le_bytes(),
+        words[3].to_le_bytes(),
+        words[4].to_le_bytes(),
+        words[5].to_le_bytes(),
+        words[6].to_le_bytes(),
+        words[7].to_le_bytes(),
+        words[8].to_le_bytes(),
+        words[9].to_le_bytes(),
+        words[10].to_le_bytes(),
+        words[11].to_le_bytes(),
+        words[12].to_le_bytes(),
+        words[13].to_le_bytes(),
+        words[14].to_le_bytes(),
+        words[15].to_le_bytes(),
+    ]
+}
+
 /// What the words leave of a register, as the bytes that they are.
 fn add_words(words: &[u64; 16]) -> u16
     ensures { result ≡ run 0 (spelled words.now) }
 {
     let mut sum = 0;
-    for word in words {
-        sum = add_eight(sum, &word.to_le_bytes());
+    for eight in &bytes_of(words) {
+        sum = add_eight(sum, eight);
     }
     sum
 }
@@ -122,13 +149,15 @@ fn add_blocks(register: u16, front: &[[u8; 128]], last: &[u8; 128]) -> u16
 /// The register after more bytes: whole blocks by words, and the rest by eights.
 #[inline(never)]
 fn add_long(register: u16, bytes: &[u8]) -> u16
+    requires { 128 ≤ length bytes.now }
     ensures { result ≡ run register bytes.now }
 {
-    let (whole, rest) = bytes.as_chunks::<128>();
-    match whole.split_last() {
-        None => add_by_eights(register, bytes),
-        Some((last, front)) => add_by_eights(add_blocks(register, front, last), rest),
+    if bytes.len() >= 1792 {
+        return add_longest(register, bytes);
     }
+    let (whole, rest) = bytes.as_chunks::<128>();
+    let (front, last) = (&whole[..whole.len() - 1], &whole[whole.len() - 1]);
+    add_by_eights(add_blocks(register, front, last), rest)
 }
 
 /// The register after more bytes. Where they are few, little is done besides the look-ups.

@@ -38,6 +38,8 @@ mod reports;
 #[cfg(test)]
 mod rooms;
 #[cfg(test)]
+mod short_messages;
+#[cfg(test)]
 mod sizes;
 #[cfg(test)]
 mod skipped;

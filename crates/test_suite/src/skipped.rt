@@ -13,7 +13,8 @@ use std::alloc::{Allocator, Global};
 use std::process::Abort;
 use test_known::files;
 
-/// How many records a decoder reports of bytes that another has skipped. It reports nothing else.
+/// How many records a decoder reports of bytes that another has skipped. It reports nothing else: the last bytes may be the first of a
+/// data message.
 fn records_of(rt: &impl Abort, decoder: &mut Decoder, bytes: &[u8]) -> Result<u64, Fault> {
     let mut count = 0u64;
     let mut rest = bytes;
@@ -22,9 +23,11 @@ fn records_of(rt: &impl Abort, decoder: &mut Decoder, bytes: &[u8]) -> Result<u6
             break;
         }
         let (used, (letter, _)) = feed(decoder, rest)?;
-        assert!(rt; letter == b'd' || letter == b'v');
-        count = count.saturating_add(1);
         rest = rest.get(used..).unwrap_or_default();
+        match letter {
+            b'd' | b'v' => count = count.saturating_add(1),
+            _ => assert!(rt; letter == b'.' && rest.is_empty()),
+        }
     }
     Ok(count)
 }

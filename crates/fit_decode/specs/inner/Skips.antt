@@ -13,3 +13,9 @@ pub record Skipped {A : Type 0} (d : Fields A) (bytes piece : List ℕ) (used : 
       → AreRecords (known_after events) records (take used piece) × AreEvents (bytes ++ take used piece) (events ++ map item records)
   pub viable : IsViable A chain_limit (bytes ++ take used piece)
   pub holds : Holds d (bytes ++ take used piece)
+
+-- The bytes used tell these records and nothing else, and the fields are those after them: some bytes of a next record may have come.
+pub record Passed {A : Type 0} (d : Fields A) (bytes piece : List ℕ) (used : ℕ) (records : List (Record A)) : Type 0 where
+  pub told : (events : List (Event A)) → AreEvents bytes events → AreEvents (bytes ++ take used piece) (events ++ map item records)
+  pub viable : IsViable A chain_limit (bytes ++ take used piece)
+  pub holds : Holds d (bytes ++ take used piece)

@@ -22,7 +22,8 @@ impl<A: Allocator + Copy> Decoder<A> {
     ///
     /// It ends before the first record that is for `feed`: one that isn't complete in the piece, or isn't allowed there; a definition
     /// message that has developer fields; one that defines or describes something for which there is no memory; and one that ends
-    /// in the last six bytes of a data section.
+    /// in the last six bytes of a data section. But where all that comes is the beginning of a data message of at most eight bytes, it
+    /// takes these bytes, and further calls take what follows of it; `feed` can go on with it too.
     pub fn skip_records(&mut self, piece: &[u8]) -> (usize, u64)
         ensures within { result.0 ≤ length piece.now }
         ensures used { self.new ≡ record self.old
@@ -42,7 +43,7 @@ impl<A: Allocator + Copy> Decoder<A> {
             self.alloc,
             &mut self.env,
             &mut self.position,
-            &self.in_progress,
+            &mut self.in_progress,
             piece,
         );
         cover(&mut self.sum, piece, skipped);

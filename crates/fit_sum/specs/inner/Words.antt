@@ -1,5 +1,5 @@
--- Bytes as numbers, and the register of sixteen words.
-use Rattle.std.specs.Prelude.{ℕ, zero, suc, ◌+◌, ◌*◌, ◌^◌, List, [], ◌∷◌, ◌++◌, take, drop, bit_xor}
+-- Bytes as numbers, and the register of sixteen or thirty-two words.
+use Rattle.std.specs.Prelude.{◌≡◌, ℕ, zero, suc, ◌+◌, ◌*◌, ◌^◌, List, [], ◌∷◌, ◌++◌, length, take, drop, bit_xor}
 use Rattle.std.specs.Int.{to_le_bytes, w64}
 
 -- the number of some bytes, the lowest first
@@ -29,12 +29,17 @@ xor_into i w [] = []
 xor_into zero w (y ∷ ys) = bit_xor y w ∷ ys
 xor_into (suc i) w (y ∷ ys) = y ∷ xor_into i w ys
 
--- the other fifteen words, once w was shifted out and added in three places
-unfoldable pub turn : ℕ → List ℕ → List ℕ
-turn w ys = xor_into 0 w (xor_into 13 w ys) ++ w ∷ []
+-- the other words, once w was shifted out and added in three places: two of them, and behind them all
+unfoldable pub turn : ℕ → ℕ → ℕ → List ℕ → List ℕ
+turn near far w ys = xor_into near w (xor_into far w ys) ++ w ∷ []
 
 -- n words shifted out
-unfoldable pub turns : ℕ → List ℕ → List ℕ
-turns zero words = words
-turns (suc n) [] = []
-turns (suc n) (w ∷ ys) = turns n (turn w ys)
+unfoldable pub turns : ℕ → ℕ → ℕ → List ℕ → List ℕ
+turns near far zero words = words
+turns near far (suc n) [] = []
+turns near far (suc n) (w ∷ ys) = turns near far n (turn near far w ys)
+
+-- Vectors of two words each. Over all of them, words of 128 bits lie in pairs of words.
+abbrev pub AllPairs : List (List ℕ) → Type 0
+AllPairs [] = Unit {0}
+AllPairs (pair ∷ pairs) = (length pair ≡ 2) × AllPairs pairs

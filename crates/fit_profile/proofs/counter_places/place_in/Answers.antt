@@ -1,11 +1,21 @@
 use Rattle.fit_profile.proofs.Common.{◌∙◌, ◌+◌, ap, arith, drop, drop-drop, drop_of_length-le, get_or, option_and_then, sym, FieldDef, number_in}
 use Rattle.std.specs.Global.{Global}
+use Rattle.fit_record.specs.ReadMessages.{fields_from}
+use Rattle.fit_profile.specs.inner.InBytes.{shapes}
 use Rattle.fit_profile.proofs.CounterBytes.{counted_here, items_within, uncounted_here}
+use Rattle.fit_profile.proofs.FieldPlaces.{absent}
 use Rattle.fit_profile.proofs.InBytes.{first_in, left_sizes, passed}
 use Rattle.fit_profile.proofs.counter_places.place_in.Goals as goal
 
 abbrev nothing : FieldDef
 nothing = record { number = 0; size = 0; code = 0 }
+
+pub returns-then-places-c-eq0-clause-number : goal.returns-then-places-c-eq0-clause-number
+returns-then-places-c-eq0-clause-number c order bytes =
+    let fields = c.args.fields.now in
+    let field = c.args.c.field in
+    ap (option_and_then (λ f. number_in c.args.c f.1))
+    (absent {A = Global} fields (fields_from order (shapes fields) bytes) field 0 (sym (c.requires.places field c.requires.field) ∙ c.if-places-c-eq0.true))
 
 pub returns-then-not-has_items-clause-number : goal.returns-then-not-has_items-clause-number
 returns-then-not-has_items-clause-number c order bytes =

@@ -1,4 +1,4 @@
-use Rattle.fit_step.proofs.Common.{◌∙◌, ◌++◌, ◌∷◌, [], sym, ap, take, no_items, map, arith}
+use Rattle.fit_step.proofs.Common.{◌∙◌, ◌++◌, ◌∷◌, [], sym, ap, no_items, arith}
 use Rattle.fit_step.proofs.TwoLists.{one_more_field}
 use Rattle.std.proofs.lemmas.Grind.{common_steps}
 use Rattle.fit_step.proofs.header.empty_fields.Goals as goal

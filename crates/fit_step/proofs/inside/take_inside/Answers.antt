@@ -12,10 +12,10 @@ returns-clause-taken g c = λ e _.
           let k = w.ends_no_number.ensures w.if-ends_no_number.true in
           inside_field e (tests_of e) p c.args.in_progress.now (values_of c.args.in_progress.now) c.args.byte is c.match-position.next c.push.new.self
           c.push.ensures w.in-FieldItems.place w.in-FieldItems.width w.in-FieldItems.left w.in-FieldItems.is w.next-is (omega (arith, k.2))
-          (omega (arith, k.1, c.len-count.ensures))
+          (omega (arith, k.1, c.len-count.ensures.length))
       | in-DevItems w ↦
           let k = w.if-ends_no_number-2.ensures refl in
           inside_dev e (tests_of e) p c.args.in_progress.now (values_of c.args.in_progress.now) c.args.byte is c.match-position.next c.push.new.self
           c.push.ensures w.in-DevItems.place w.in-DevItems.width w.in-DevItems.left w.in-DevItems.is w.next-is (omega (arith, k.2))
-          (omega (arith, k.1, c.len-count.ensures))
+          (omega (arith, k.1, c.len-count.ensures.length))
     ]

@@ -21,5 +21,5 @@ returns-in_err-add_number g c =
     rw p.1 (record {
       ok = tt;
       err = (c.in_err-add_number.ensures.err, refl);
-      free = λ short. absurd (omega (arith, short, long, ap length c.with-bytes.ensures, c.len.ensures, c.if-len-field.false));
+      free = λ short. absurd (omega (arith, short, long, ap length c.with-bytes.ensures, c.len.ensures.length, c.if-len-field.false));
     })

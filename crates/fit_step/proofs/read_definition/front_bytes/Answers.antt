@@ -1,5 +1,5 @@
 use Rattle.fit_step.proofs.Common.{◌∙◌, ap, take, true, false, ◌+◌, if◌then◌else◌, has_reserved_bit, is_definition, has_developer_fields}
-use Rattle.fit_step.proofs.Common.{◌≡◌, ◌<◌, ◌∷◌, IsBytes, IsBytes-tail, slice_is_bytes, subst, rules, arith, length, lit<, refl, sym}
+use Rattle.fit_step.proofs.Common.{◌≡◌, ◌∷◌, IsBytes, IsBytes-tail, slice_is_bytes, subst, rules, arith, length, lit<, refl, sym}
 use Rattle.fit_step.proofs.ReadDefinitions.{byte_at, count_at, front_is, header_of}
 use Rattle.std.proofs.lemmas.Grind.{common_steps}
 use Rattle.fit_step.proofs.read_definition.front_bytes.Goals as goal

@@ -1,6 +1,7 @@
-use Rattle.fit_step.proofs.Common.{◌≡◌, ◌<◌, ◌++◌, length, take, get_or, refl, sym, ◌∙◌, subst, arith, IsInProgress}
+use Rattle.fit_step.proofs.Common.{◌≡◌, ◌<◌, ◌++◌, length, take, get_or, refl, sym, ◌∙◌, subst, arith, inl, append-nil, StandsAfter}
 use Rattle.fit_step.proofs.Common.{slice_is_bytes, state_at, StandsWithRoom, None, step, tests_of}
 use Rattle.fit_step.proofs.ReadBytes.{byte_ends, byte_goes, record_ends, record_stops, record_goes, stands_on}
+use Rattle.fit_step.proofs.RecordsInProgress.{part_stands}
 use Rattle.fit_step.proofs.record_reader.scan_bytes.Goals as goal
 
 pub returns-in-Ok-true-clause-reads : goal.returns-in-Ok-true-clause-reads
@@ -23,6 +24,15 @@ returns-in-Err-clause-reads g c = λ room bytes h.
     record_stops c.args.env.now c.loop-i.env c.take_byte.new.env room bytes c.args.piece.now c.loop-i.i c.loop-i.position c.take_byte.new.position
     c.loop-i.in_progress c.take_byte.new.in_progress c.loop-i-test.true (slice_is_bytes c.args.piece.now c.type_inv.piece c.loop-i.i)
     c.loop-i.invariant.known (c.loop-i.invariant.come room bytes h) c.in-Err.stop c.in-Err.ensures.err c.loop-i.invariant.reading.0 c.in-Err.ensures.made
+
+pub loop-i-init : goal.loop-i-init
+loop-i-init g c = record {
+  known = refl;
+  come = λ room bytes h.
+      subst (λ z. StandsAfter c.args.env.now room z (state_at c.args.position.now c.args.in_progress.now)) (sym (append-nil bytes))
+      (part_stands c.args.env.now room bytes c.args.position.now c.args.in_progress.now h c.requires.1);
+  reading = c.requires;
+}
 
 pub loop-i-preserved : goal.loop-i-preserved
 loop-i-preserved g c =
@@ -47,7 +57,7 @@ returns-clause-reads g c = λ room bytes h.
     let known = c.loop-i.invariant.known in (
       refl,
       known,
-      subst (λ n. IsInProgress c.args.env.now room (bytes ++ take n c.args.piece.now) c.loop-i.position c.loop-i.in_progress) all
-          (subst (λ e. IsInProgress e room (bytes ++ take c.loop-i.i c.args.piece.now) c.loop-i.position c.loop-i.in_progress) known
-          (c.loop-i.invariant.come room bytes h)),
+      inl (subst (λ n. StandsAfter c.args.env.now room (bytes ++ take n c.args.piece.now) (state_at c.loop-i.position c.loop-i.in_progress)) all
+          (subst (λ e. StandsAfter e room (bytes ++ take c.loop-i.i c.args.piece.now) (state_at c.loop-i.position c.loop-i.in_progress)) known
+          (c.loop-i.invariant.come room bytes h))),
     )

@@ -1,5 +1,5 @@
-use Rattle.fit_step.proofs.Common.{ap, ◌∙◌, subst, rules, sym, Define, DefinitionFits, learn, size_to_skip, AreSizesToSkip, slice_set, arith, refl}
-use Rattle.fit_step.proofs.SkippedRecords.{sizes_after}
+use Rattle.fit_step.proofs.Common.{ap, ◌∙◌, subst, sym, Define, DefinitionFits, learn, size_to_skip, AreSizesToSkip, arith, refl}
+use Rattle.fit_step.proofs.SkippedRecords.{sizes_after, others_stay}
 use Rattle.fit_step.proofs.ReadDefinitions.{read_fits, read_is_record}
 use Rattle.fit_step.specs.inner.Definitions.{definition_of}
 use Rattle.fit_step.proofs.skipping.skip_definition.Goals as goal
@@ -17,17 +17,11 @@ define-requires g c = (
       (read_fits c.in-Some.front c.in-Some.entries.now c.args.bytes.now c.in-Some.ensures.begins c.in-Ok.fields c.in-Ok.ensures),
 )
 
-pub size_to_skip-requires : goal.size_to_skip-requires
-size_to_skip-requires g c = assumption
+pub small_size-requires : goal.small_size-requires
+small_size-requires g c = assumption
 
-pub overflow_cast-sizes : goal.overflow_cast-sizes
-overflow_cast-sizes g c = omega (arith, c.in-Some.ensures.begins.local)
-
-pub bounds-sizes-front : goal.bounds-sizes-front
-bounds-sizes-front g c = c.in-Some.ensures.begins.local
-
-pub offset_bounds-sizes-front : goal.offset_bounds-sizes-front
-offset_bounds-sizes-front g c = omega (arith, c.in-Some.ensures.begins.local)
+pub put_size-requires : goal.put_size-requires
+put_size-requires g c = record { local = c.in-Some.ensures.begins.local; together = c.requires.1 }
 
 pub returns-in_default : goal.returns-in_default
 returns-in_default g c = record { within = omega arith; sizes = c.requires; none = λ _. refl; skipped = λ some. absurd (omega (arith, some)) }
@@ -63,14 +57,13 @@ returns g c =
     let e = c.args.env.now in
     let found = c.in-Some in
     let begins = found.ensures.begins in
-    let local = found.front.local in
     let d = definition_of found.front c.in-Ok.fields in
     let learnt = c.in-Ok-define.ensures.ok ∙ ap (λ k. learn e (Define k)) c.with_fields.ensures in
     record {
       within = begins.within;
-      sizes = subst (λ f. AreSizesToSkip f (slice_set c.args.sizes.now local c.size_to_skip.result)) (sym learnt)
-          (sizes_after e d c.args.sizes.now c.size_to_skip.result (search rules) begins.local c.requires
-          (c.size_to_skip.ensures ∙ ap (λ f. size_to_skip f local) learnt));
+      sizes = subst (λ f. AreSizesToSkip f c.put_size.new.sizes) (sym learnt)
+          (sizes_after e (learn e (Define d)) d.local c.small_size.result c.args.sizes.now c.put_size.new.sizes c.requires c.put_size.ensures.put
+          c.put_size.ensures.together (λ some. c.small_size.ensures some ∙ ap (λ f. size_to_skip f d.local) learnt) (others_stay e d));
       none = λ none. absurd (omega (arith, none));
       skipped = λ some.
           (Define d, read_is_record found.front found.entries.now c.args.bytes.now begins c.in-Ok.fields c.in-Ok.ensures e, sym learnt);

@@ -1,31 +1,28 @@
-use Rattle.fit_step.proofs.Common.{◌≡◌, ◌+◌, [], take, refl, ap, ◌∙◌, subst, arith, take-take, length, Learns, ◌≤◌}
-use Rattle.fit_step.proofs.SkippedRecords.{skipped_after, none_skipped}
+use Rattle.fit_step.proofs.Common.{[], refl, sym, subst, take, PassesInSection}
+use Rattle.fit_step.proofs.SkippedRecords.{none_passed, skipped_passed}
 use Rattle.fit_step.proofs.skipping.skip_in_section.Goals as goal
 
-pub returns-in-Some : goal.returns-in-Some
-returns-in-Some g c = record {
-  within = omega arith;
-  skips = ([], refl, none_skipped c.args.env.now c.args.position.now c.args.in_progress.now c.args.piece.now);
-}
+pub returns-in_default-clause-passes : goal.returns-in_default-clause-passes
+returns-in_default-clause-passes g c = ([], refl, none_passed c.args.env.now c.args.position.now c.args.in_progress.now)
 
-pub returns-then-position-lt6 : goal.returns-then-position-lt6
-returns-then-position-lt6 g c = record {
-  within = omega arith;
-  skips = ([], refl, none_skipped c.args.env.now c.args.position.now c.args.in_progress.now c.args.piece.now);
-}
+pub returns-then-position-lt6-clause-passes : goal.returns-then-position-lt6-clause-passes
+returns-then-position-lt6-clause-passes g c = ([], refl, none_passed c.args.env.now c.args.position.now c.args.in_progress.now)
 
-pub returns-clause-skips : goal.returns-clause-skips
-returns-clause-skips g c =
-    let s = c.skip_records-used in
+pub returns-then-holds_no_definition-clause-passes : goal.returns-then-holds_no_definition-clause-passes
+returns-then-holds_no_definition-clause-passes g c = ([], refl, none_passed c.args.env.now c.args.position.now c.args.in_progress.now)
+
+pub returns-then-size-gt0-clause-passes : goal.returns-then-size-gt0-clause-passes
+returns-then-size-gt0-clause-passes g c = ([], refl, c.keep_first.ensures.passes c.in-None.is)
+
+pub returns-clause-passes : goal.returns-clause-passes
+returns-clause-passes g c =
+    let e = c.args.env.now in
+    let p = c.args.position.now in
+    let s = c.skip_whole in
     let piece = c.args.piece.now in
-    let used = s.result.0 in
-    let front = c.before_last_six-front in
-    let large : used + 6 ≤ c.args.position.now.room = omega (arith, s.ensures.within, front.ensures.left) in
-    let same : take used front.result.now ≡ take used piece =
-    ap (take used) front.ensures.front ∙ take-take used (length front.result.now) piece s.ensures.within in
-    let (records, learns, count) = s.ensures.records in
-    let all = subst (λ y. Learns c.args.env.now s.new.env y records) same learns in (
+    let (records, count, skips) = s.ensures.skips in (
       records,
       count,
-      skipped_after c.args.env.now s.new.env c.args.position.now c.args.in_progress.now piece used records c.in-None.is large all,
+      subst (λ o. PassesInSection e p o s.new.env s.new.position o (take s.result.0 piece) records) (sym c.in-None.is)
+          (skipped_passed e s.new.env p s.new.position piece s.result.0 records s.ensures.within skips),
     )

@@ -1,5 +1,5 @@
-use Rattle.fit_sum.proofs.Common.{◌≡◌, take, run, spelled}
+use Rattle.fit_sum.proofs.Common.{◌≡◌, take, concat, run}
 use Rattle.fit_sum.proofs.words.add_words.Given as goal
 
-abbrev pub invariant-loop-word : goal.invariant-loop-word
-invariant-loop-word l = l.sum ≡ run 0 (spelled (take l.word-index l.words))
+abbrev pub invariant-loop-eight : goal.invariant-loop-eight
+invariant-loop-eight l = l.sum ≡ run 0 (concat (take l.eight-index l.eight-items))

@@ -9,7 +9,8 @@ pub held-requires : goal.held-requires
 held-requires g c = field_is_within 3 (layout (the_row (A-row g.row.A) g.A.Allocator)) _ assumption
 
 pub in_progress_size-requires : goal.in_progress_size-requires
-in_progress_size-requires g c = small_seen c.self.inside c.self.invariant
+in_progress_size-requires g c =
+    (field_is_within 3 (layout (the_row (A-row g.row.A) g.A.Allocator)) _ assumption, small_seen c.self.inside c.self.invariant)
 
 pub returns-clause-held : goal.returns-clause-held
 returns-clause-held g c = held_seen c.self.inside c.self.invariant c.held.result c.in_progress_size.result c.held.ensures.size c.in_progress_size.ensures.size

@@ -3,7 +3,8 @@ use Rattle.fit_decode.specs.contracts.decoder.Decoder.{the_row}
 use Rattle.fit_decode.specs.contracts.decoder.Decoder.skip_records.{A-row}
 use Rattle.fit_record.proofs.Sizes.{field_is_within}
 use Rattle.fit_decode.proofs.Feeding.{none_refused, was_viable}
-use Rattle.fit_decode.proofs.Skipping.{few_skipped, skipped_kept, records_skipped, used_more, used_none}
+use Rattle.fit_decode.proofs.Passing.{few_passed, passed_kept, records_passed}
+use Rattle.fit_decode.proofs.Skipping.{used_more, used_none}
 use Rattle.fit_decode.proofs.decoder.Decoder.skip_records.Goals as goal
 
 pub returns-in_default-clause-viable : goal.returns-in_default-clause-viable
@@ -21,25 +22,25 @@ count_fed-requires-clause-within g c = c.skip_in_section-skipped.ensures.within
 pub count_fed-requires-clause-fits : goal.count_fed-requires-clause-fits
 count_fed-requires-clause-fits g c =
     let s = c.skip_in_section-skipped in
-    let (records, count, skip) = s.ensures.skips in
-    few_skipped c.self.inside c.self.invariant c.in-Data.is c.args.piece.now s.new.env (c.self.inside.sum ++ take s.result.0 c.args.piece.now) s.new.position
-    s.result.0 records (slice_is_bytes c.args.piece.now c.type_inv.piece) s.ensures.within skip refl
+    let (records, count, pass) = s.ensures.passes in
+    few_passed c.self.inside c.self.invariant c.in-Data.is c.args.piece.now s.new.env (c.self.inside.sum ++ take s.result.0 c.args.piece.now) s.new.position
+    s.new.in_progress s.result.0 records (slice_is_bytes c.args.piece.now c.type_inv.piece) s.ensures.within pass refl
 
 pub invariant_of-self : goal.invariant_of-self
 invariant_of-self g c =
     let s = c.skip_in_section-skipped in
-    let (records, count, skip) = s.ensures.skips in
-    skipped_kept c.self.inside c.self.invariant c.in-Data.is c.args.piece.now s.new.env c.cover.new.sum s.new.position s.result.0 records
-    (slice_is_bytes c.args.piece.now c.type_inv.piece) s.ensures.within skip c.cover.ensures _ c.count_fed.ensures.noted refl c.count_fed.ensures.counted
+    let (records, count, pass) = s.ensures.passes in
+    passed_kept c.self.inside c.self.invariant c.in-Data.is c.args.piece.now s.new.env c.cover.new.sum s.new.position s.new.in_progress s.result.0 records
+    (slice_is_bytes c.args.piece.now c.type_inv.piece) s.ensures.within pass c.cover.ensures _ c.count_fed.ensures.noted refl c.count_fed.ensures.counted
 
 pub returns-clause-records : goal.returns-clause-records
 returns-clause-records g c = λ events are.
     let s = c.skip_in_section-skipped in
-    let (records, count, skip) = s.ensures.skips in
-    let told = records_skipped c.self.inside c.self.invariant c.in-Data.is c.args.piece.now s.new.env c.cover.new.sum s.new.position s.result.0 records
-    (slice_is_bytes c.args.piece.now c.type_inv.piece) s.ensures.within skip c.cover.ensures
+    let (records, count, pass) = s.ensures.passes in
+    let told = records_passed c.self.inside c.self.invariant c.in-Data.is c.args.piece.now s.new.env c.cover.new.sum s.new.position s.new.in_progress
+    s.result.0 records (slice_is_bytes c.args.piece.now c.type_inv.piece) s.ensures.within pass c.cover.ensures
     c.args.self.now c.self.view_is c.count_fed.new.history.items c.count_fed.ensures.noted events are in
-    (records, count, told.1)
+    (records, count, told)
 
 pub returns-clause-refused : goal.returns-clause-refused
 returns-clause-refused g c = none_refused c.self.inside c.self.invariant c.args.self.now c.self.view_is (ap refusal_of c.in-Data.is)

@@ -13,7 +13,7 @@ put-requires c =
     omega (arith, fits.local, room)
 
 pub returns-in-Define : goal.returns-in-Define
-returns-in-Define c e sixteen planned =
+returns-in-Define c e sixteen planned _ =
     let d = c.in-Define.definition in
     let fits = subst (λ r. Fits c.requires.fits.0 r) c.in-Define.is c.requires.fits.1 in
     let room = subst (λ r. HasRoomFor c.args.self.now.places.items r) c.in-Define.is c.requires.room in
@@ -22,3 +22,7 @@ returns-in-Define c e sixteen planned =
     (planned_set c.args.self.now.places.items e.places d.local c.of.result (defined_by e d)
     (omega (arith, fits.local, room)) (omega (arith, fits.local, sixteen))
     planned c.of.ensures))
+
+pub returns-then-not-changes : goal.returns-then-not-changes
+returns-then-not-changes c e sixteen planned same =
+    subst (λ x. ArePlanned c.args.self.now.places.items x.places) (sym (same c.if-not-changes.true)) planned

@@ -16,12 +16,12 @@ pub returns-in_err-make_room-clause-free : goal.returns-in_err-make_room-clause-
 returns-in_err-make_room-clause-free c none =
     let wrong = subst (λ r. IsOk r) c.in_err-make_room.was (c.make_room.ensures.free (known c.args.self.now) none) in cc wrong
 
-pub invariant_of-self-in_err-take_in : goal.invariant_of-self-in_err-take_in
-invariant_of-self-in_err-take_in c =
+pub invariant_of-self-in_err-changes : goal.invariant_of-self-in_err-changes
+invariant_of-self-in_err-changes c =
     let s = c.self.inside in (
       keeps-same s.env c.take_in.new.env s.last s.names c.take_in.new.names (reverse s.pushed.items) c.self.invariant.0
-          c.in_err-take_in.ensures.env_kept c.in_err-take_in.ensures.names_kept,
-      subst (λ x. ArePlanned c.make_room.new.self.places.items x.places) (sym c.in_err-take_in.ensures.env_kept)
+          c.in_err-changes.ensures.env_kept c.in_err-changes.ensures.names_kept,
+      subst (λ x. ArePlanned c.make_room.new.self.places.items x.places) (sym c.in_err-changes.ensures.env_kept)
           (planned_same s.plans.places.items c.make_room.new.self.places.items s.env.places c.make_room.ensures.same c.self.invariant.1),
       c.self.invariant.2,
     )
@@ -33,10 +33,11 @@ invariant_of-self-2 c =
     let e = c.self.inside.env in (
       subst (λ ys. KeepsRecords c.take_in.new.env c.args.last c.take_in.new.names (reverse ys)) (sym c.add.ensures)
           (keeps-next c.self.inside.env c.take_in.new.env c.self.inside.last c.args.last c.self.inside.names c.take_in.new.names items c.args.self.now r
-          c.self.invariant.0 c.self.view_is c.in_ok-take_in.ensures.learned c.requires.last c.in_ok-take_in.ensures.names),
-      subst (λ x. ArePlanned c.take.new.self.places.items x.places) (sym c.in_ok-take_in.ensures.learned)
+          c.self.invariant.0 c.self.view_is c.in_ok-changes.ensures.learned c.requires.last c.in_ok-changes.ensures.names),
+      subst (λ x. ArePlanned c.take.new.self.places.items x.places) (sym c.in_ok-changes.ensures.learned)
           (c.take.ensures e (sixteen_of e items c.self.invariant.0.env_is)
-          (planned_same c.self.inside.plans.places.items c.make_room.new.self.places.items e.places c.make_room.ensures.same c.self.invariant.1)),
+          (planned_same c.self.inside.plans.places.items c.make_room.new.self.places.items e.places c.make_room.ensures.same c.self.invariant.1)
+          c.in_ok-changes.ensures.same),
       λ wrong. cc wrong,
     )
 

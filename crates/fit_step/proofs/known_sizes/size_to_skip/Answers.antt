@@ -1,7 +1,7 @@
 use Rattle.fit_step.proofs.Common.{◌≡◌, ◌+◌, None, Some, cond, sym, ap, ◌∙◌, option_map, eq-eqb, ne_eqb, message_size, arith}
 use Rattle.fit_step.proofs.SkippedRecords.{size_at}
 use Rattle.fit_step.proofs.WholeMessage.{same_size}
-use Rattle.fit_step.proofs.skipping.size_to_skip.Goals as goal
+use Rattle.fit_step.proofs.known_sizes.size_to_skip.Goals as goal
 
 pub defined-requires : goal.defined-requires
 defined-requires g c = assumption
