@@ -25,7 +25,7 @@
 #include <stdint.h>
 
 /* The version of this header; gazhdor_version() has that of the library. */
-#define GAZHDOR_VERSION "0.9.0"
+#define GAZHDOR_VERSION "0.10.0"
 
 /* Casts and null pointers as each language writes them, so that C++ has nothing to warn of. */
 #ifdef __cplusplus
@@ -226,16 +226,18 @@ gazhdor_answer gazhdor_writer_open(gazhdor_writer *writer);
 /* Begins a file with the header that a block says; the file before it ends.
  *
  * Of this call and the next two: GAZHDOR_BLOCK where a block can't be put, and then `reason` says why. After GAZHDOR_BLOCK and
- * GAZHDOR_NO_MEMORY the writer is what it was, and may go on. */
+ * GAZHDOR_NO_MEMORY the writer is what it was, and may go on; but where there was no more room or memory, some of what comes before a message
+ * may have been put. */
 gazhdor_answer gazhdor_writer_file(gazhdor_writer *writer, const uint8_t *block, size_t length);
 
 /* Puts the definition message that a block says, as it is: for files that are copied. Before a message one is put where it is needed. */
 gazhdor_answer gazhdor_writer_definition(gazhdor_writer *writer, const uint8_t *block, size_t length);
 
-/* Puts the messages whose blocks stand one after another, by the block of their definition, up to the first that can't be put. `row` is how
- * many were put, so with GAZHDOR_BLOCK the number of the one that wasn't, and `place` where that begins in `blocks`; `column` is 1 where it
- * is the definition that can't stand, else 0. `files` is how many were put before the first of which a reader is told another speed or
- * distance, other cycles or another power than its block says: as many as `row` where there is none. */
+/* Puts the messages whose blocks stand one after another, by the block of their definition, up to the first that can't be put. Developer
+ * fields that the file doesn't describe as that block does are described before. `row` is how many were put, so with GAZHDOR_BLOCK the number
+ * of the one that wasn't, and `place` where that begins in `blocks`; `column` is 1 where it is the definition that can't stand, else 0.
+ * `files` is how many were put before the first of which a reader is told another speed or distance, other cycles or another power than its
+ * block says: as many as `row` where there is none. */
 gazhdor_answer gazhdor_writer_messages(gazhdor_writer *writer, const uint8_t *definition, size_t definition_length, const uint8_t *blocks,
     size_t length);
 
@@ -254,7 +256,7 @@ void gazhdor_free(gazhdor_text text);
 const char *gazhdor_status_name(uint32_t status);
 const char *gazhdor_reason_name(uint32_t reason);
 
-/* The version of the library, as "0.9.0". */
+/* The version of the library, as "0.10.0". */
 const char *gazhdor_version(void);
 
 #ifdef __cplusplus

@@ -66,7 +66,7 @@ static inline const char *gazhdor_block_reason_text(uint32_t reason)
     case 12: return "the block begins one file more than a chain may have";
     case 13: return "the block is a message of 255 fields that needs a timestamp";
     case 14: return "the block is a message that needs a timestamp, and whose time is the number that stands for none";
-    case 15: return "the block is a message of which a developer field has another base type, name or unit in this file, or none";
+    case 15: return "the block is a message of which a developer field can't be described with its base type, name and unit";
     case 16: return "the block would make the data of its file longer than a file may have";
     default: return "unknown";
     }

@@ -164,8 +164,8 @@ static inline uint32_t gazhdor_set_offset(gazhdor_blocks *to, uint32_t seconds)
     return GAZHDOR_PUT;
 }
 
-/* Describes a developer field: a definition of this local message type, and a field_description message with its numbers, its base type,
- * its name and its unit, of at most 254 bytes each. */
+/* Describes a developer field for gazhdor_from_messages: a definition of this local message type, and a field_description message with its
+ * numbers, its base type, this name and this unit, of at most 254 bytes each. */
 static inline uint32_t gazhdor_put_description(gazhdor_blocks *to, uint32_t local, gazhdor_field own, const char *name, const char *unit)
 {
     gazhdor_field fields[5] = { gazhdor_new_field(0, GAZHDOR_TYPE_UINT8, 1), gazhdor_new_field(1, GAZHDOR_TYPE_UINT8, 1),

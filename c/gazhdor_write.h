@@ -110,8 +110,9 @@ static inline gazhdor_field gazhdor_new_field(uint32_t number, uint32_t base_typ
     return field;
 }
 
-/* The same of a developer field. The base type is that of its description, which comes before the definition in the file; where none
- * does, it is GAZHDOR_TYPE_BYTE. */
+/* The same of a developer field. For gazhdor_from_messages the base type is that of its description, which comes before the definition in
+ * the file; where none does, it is GAZHDOR_TYPE_BYTE. A gazhdor_writer describes the field, by this base type and by what you set its `name`
+ * and its `unit` to. */
 static inline gazhdor_field gazhdor_new_developer(uint32_t index, uint32_t number, uint32_t base_type, size_t count)
 {
     gazhdor_field field = gazhdor_new_field(index > 255 ? 256 : number, base_type, count);
@@ -219,6 +220,12 @@ static inline size_t gazhdor_slot(gazhdor_field field)
     return (GAZHDOR_CAST(size_t, field.count) * field.width + 7) / 8 * 8;
 }
 
+/* How much room a name or a unit of a developer field has in its entry, with the zeros after it. Of other fields none is kept. */
+static inline size_t gazhdor_text_room(gazhdor_field field, const char *text)
+{
+    return field.developer && text != GAZHDOR_NULL ? (strlen(text) + 8) / 8 * 8 : 8;
+}
+
 /* Whether a definition may have these fields, and how many of them are developer fields. */
 static inline uint32_t gazhdor_judge(const gazhdor_field *fields, size_t count, size_t *developer)
 {
@@ -231,6 +238,8 @@ static inline uint32_t gazhdor_judge(const gazhdor_field *fields, size_t count, 
         size_t width = lone.there && size % lone.width == 0 ? lone.width : 1;
         if (!fields[i].there || size > 255 || fields[i].width != width)
             return GAZHDOR_PUT_FIELD;
+        if (gazhdor_text_room(fields[i], fields[i].name) > 256 || gazhdor_text_room(fields[i], fields[i].unit) > 256)
+            return GAZHDOR_PUT_LENGTH;
         if (*developer > 0 && !fields[i].developer)
             return GAZHDOR_PUT_COUNT;
         *developer += fields[i].developer != 0;
@@ -238,11 +247,26 @@ static inline uint32_t gazhdor_judge(const gazhdor_field *fields, size_t count, 
     return count - *developer > 255 || *developer > 255 ? GAZHDOR_PUT_COUNT : GAZHDOR_PUT;
 }
 
-/* The entry of a field, with a name and a unit that are empty. */
+/* How long the entry of a field is. */
+static inline size_t gazhdor_entry_length(gazhdor_field field)
+{
+    return GAZHDOR_AT_ENTRY_NAME + gazhdor_text_room(field, field.name) + gazhdor_text_room(field, field.unit);
+}
+
+/* Where a text is, which may have been in these blocks when they had this length and were at `old`. */
+static inline const char *gazhdor_moved(const gazhdor_blocks *to, const char *text, const uint8_t *old, size_t length)
+{
+    const uint8_t *bytes = GAZHDOR_BYTES_OF(text);
+    int is_within = text != GAZHDOR_NULL && old != GAZHDOR_NULL && bytes >= old && bytes < old + length;
+    return is_within ? GAZHDOR_CAST(const char *, GAZHDOR_CAST(const void *, to->bytes + (bytes - old))) : text;
+}
+
+/* The entry of a field, in bytes that are 0. */
 static inline void gazhdor_store_entry(uint8_t *entry, gazhdor_field field)
 {
-    gazhdor_store(entry + GAZHDOR_AT_ENTRY_LENGTH, GAZHDOR_LEAST_ENTRY, 2);
-    gazhdor_store(entry + GAZHDOR_AT_ENTRY_UNIT, GAZHDOR_AT_ENTRY_NAME + 8, 2);
+    size_t unit = GAZHDOR_AT_ENTRY_NAME + gazhdor_text_room(field, field.name);
+    gazhdor_store(entry + GAZHDOR_AT_ENTRY_LENGTH, gazhdor_entry_length(field), 2);
+    gazhdor_store(entry + GAZHDOR_AT_ENTRY_UNIT, unit, 2);
     entry[GAZHDOR_AT_ENTRY_NUMBER] = field.number;
     entry[GAZHDOR_AT_ENTRY_DEVELOPER] = field.developer != 0;
     entry[GAZHDOR_AT_ENTRY_INDEX] = field.index;
@@ -255,11 +279,15 @@ static inline void gazhdor_store_entry(uint8_t *entry, gazhdor_field field)
     gazhdor_store(entry + GAZHDOR_AT_ENTRY_SCALE, field.scale, 4);
     gazhdor_store(entry + GAZHDOR_AT_ENTRY_OFFSET, field.offset, 4);
     gazhdor_store(entry + GAZHDOR_AT_ENTRY_INVALID, field.invalid, 8);
+    if (field.developer && field.name != GAZHDOR_NULL)
+        memcpy(entry + GAZHDOR_AT_ENTRY_NAME, field.name, strlen(field.name));
+    if (field.developer && field.unit != GAZHDOR_NULL)
+        memcpy(entry + unit, field.unit, strlen(field.unit));
 }
 
 /* Defines what the messages of a local message type are: of the message with this number, with these fields and then developer fields, in
  * little endian. The fields then are those of this definition, for gazhdor_set_value and the like. They may be new, or fields of a
- * definition that was read. */
+ * definition that was read. Of developer fields it takes the names and the units along, of at most 255 bytes. */
 static inline uint32_t gazhdor_put_definition(gazhdor_blocks *to, uint32_t local, uint32_t message, gazhdor_field *fields, size_t count)
 {
     size_t developer;
@@ -268,8 +296,11 @@ static inline uint32_t gazhdor_put_definition(gazhdor_blocks *to, uint32_t local
         answer = !to->within ? GAZHDOR_PUT_ORDER : local > 15 ? GAZHDOR_PUT_LOCAL : GAZHDOR_PUT_RANGE;
     if (answer != GAZHDOR_PUT)
         return gazhdor_missed(to, answer);
-    size_t place = to->length, entry = GAZHDOR_AT_DEFINITION_NAME + 8;
-    uint8_t *block = gazhdor_new_block(to, entry + GAZHDOR_LEAST_ENTRY * count, GAZHDOR_DEFINITION);
+    size_t place = to->length, entry = GAZHDOR_AT_DEFINITION_NAME + 8, all = entry;
+    const uint8_t *old = to->bytes;
+    for (size_t i = 0; i < count; i++)
+        all += gazhdor_entry_length(fields[i]);
+    uint8_t *block = gazhdor_new_block(to, all, GAZHDOR_DEFINITION);
     if (block == GAZHDOR_NULL)
         return gazhdor_missed(to, GAZHDOR_PUT_FULL);
     uint64_t number = (GAZHDOR_CAST(uint64_t, 1) << 63) + to->definitions++;
@@ -277,8 +308,10 @@ static inline uint32_t gazhdor_put_definition(gazhdor_blocks *to, uint32_t local
     for (size_t i = 0; i < count; i++) {
         fields[i].definition = number;
         fields[i].at = begins;
+        fields[i].name = gazhdor_moved(to, fields[i].name, old, place);
+        fields[i].unit = gazhdor_moved(to, fields[i].unit, old, place);
         gazhdor_store_entry(block + entry, fields[i]);
-        entry += GAZHDOR_LEAST_ENTRY;
+        entry += gazhdor_entry_length(fields[i]);
         fields[i].end = entry;
         begins += GAZHDOR_CAST(uint32_t, gazhdor_slot(fields[i]));
     }

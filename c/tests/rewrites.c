@@ -157,6 +157,49 @@ static void described(void)
     free(to.bytes);
 }
 
+/* Memory elsewhere each time; what was there before is spoilt. */
+static uint8_t *elsewhere(void *own, uint8_t *bytes, size_t capacity)
+{
+    const gazhdor_blocks *to = own;
+    uint8_t *made = malloc(capacity);
+    WANT(made != NULL);
+    if (bytes != NULL) {
+        memcpy(made, bytes, to->length);
+        memset(bytes, 'x', to->length);
+    }
+    free(bytes);
+    return made;
+}
+
+/* A definition takes the names and the units of developer fields along, also where they lie in the blocks, which move. */
+static void names_in_definitions(void)
+{
+    static char most[256], more[257];
+    gazhdor_field own = gazhdor_new_developer(3, 7, GAZHDOR_TYPE_SINT16, 2);
+    gazhdor_blocks to = gazhdor_write(NULL, 0, elsewhere, &to);
+    own.name = "Form power";
+    own.unit = memset(most, 'u', sizeof most - 1);
+    PUT(gazhdor_put_header(&to, 0));
+    for (int i = 0; i < 20; i++) {
+        PUT(gazhdor_put_definition(&to, 2, GAZHDOR_MESSAGE_LAP, &own, 1));
+        WANT(strcmp(own.name, "Form power") == 0 && strcmp(own.unit, most) == 0);
+        own = gazhdor_named(gazhdor_block_at(&to, to.known[2]), "Form power");
+        WANT(own.developer && own.index == 3 && own.number == 7 && own.base_type == GAZHDOR_TYPE_SINT16 && strcmp(own.unit, most) == 0);
+    }
+    gazhdor_field heart = gazhdor_new_field(3, GAZHDOR_TYPE_UINT8, 1);
+    heart.name = "heart_rate"; /* What isn't a developer field has its name from the profile. */
+    PUT(gazhdor_put_definition(&to, 2, GAZHDOR_MESSAGE_LAP, &heart, 1));
+    WANT(gazhdor_first_field(gazhdor_block_at(&to, to.known[2])).name[0] == 0);
+    size_t length = to.length;
+    own.name = memset(more, 'n', sizeof more - 1);
+    WANT(gazhdor_put_definition(&to, 2, GAZHDOR_MESSAGE_LAP, &own, 1) == GAZHDOR_PUT_LENGTH && to.length == length);
+    own.name = NULL;
+    to.fault = GAZHDOR_PUT;
+    PUT(gazhdor_put_definition(&to, 2, GAZHDOR_MESSAGE_LAP, &own, 1));
+    WANT(gazhdor_first_field(gazhdor_block_at(&to, to.known[2])).name[0] == 0);
+    free(to.bytes);
+}
+
 /* Copies a block with one byte changed, and as the last thing puts the byte back. */
 static uint32_t put_changed(gazhdor_blocks *to, gazhdor_block block, size_t at, uint8_t byte)
 {
@@ -378,6 +421,7 @@ int main(int argc, char **argv)
     say_the_same(&without, blocks, 1);
     free(without.bytes);
     described();
+    names_in_definitions();
     wrong_blocks();
     odd_size();
     long rounds = atol(argv[2]);

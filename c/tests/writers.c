@@ -1,7 +1,7 @@
 /* Tests of a gazhdor_writer: writers ROUNDS FILE.. The blocks of each file, put one by one, in runs and in random runs, make its bytes again; so
  * do random chains of random files, of which gazhdor_from_messages makes the same. Where any messages are left out, the others are read back
- * as they were. Each reason; lengths that lie; a writer that is closed; each growth of memory refused in turn, and then the call again. Link
- * with --wrap=malloc, realloc and free. */
+ * as they were, with what describes their developer fields. Each reason; lengths that lie; a writer that is closed; each growth of memory
+ * refused in turn, and then the call again. Link with --wrap=malloc, realloc and free. */
 #define COUNTED
 #include "want.h"
 
@@ -120,18 +120,25 @@ static void any_chain(void)
 
 /* ---- messages that are left out */
 
-/* Messages that say what developer fields are stay. */
-static int is_kept(const gazhdor_reader *at)
+/* What a message says of developer fields: the writer may have put it. */
+static int describes(const gazhdor_reader *at)
 {
     return at->message == GAZHDOR_MESSAGE_FIELD_DESCRIPTION || at->message == GAZHDOR_MESSAGE_DEVELOPER_DATA_ID;
 }
 
-static int has_developers(gazhdor_block definition)
+/* Whether a definition has a developer field, or one of which nothing is said. */
+static int has_developer(gazhdor_block definition, int is_bare)
 {
     for (gazhdor_field f = gazhdor_first_field(definition); f.there; f = gazhdor_next_field(definition, f))
-        if (f.developer)
+        if (f.developer && (!is_bare || (f.base_type == GAZHDOR_TYPE_BYTE && f.name[0] == 0 && f.unit[0] == 0)))
             return 1;
     return 0;
+}
+
+/* Whether what the reader is at describes developer fields, or is a definition that has such. */
+static int is_of_developers(const gazhdor_reader *at)
+{
+    return at->block.kind == GAZHDOR_MESSAGE ? describes(at) : has_developer(at->block, 0);
 }
 
 /* Whether two messages have the same fields with the same items, but that in the other the time of the header may come first as one. */
@@ -154,46 +161,59 @@ static int same_message(const gazhdor_reader *x, const gazhdor_reader *y)
     return x->message == y->message && gazhdor_time(x->block) == gazhdor_time(y->block) && same_fields(x, y);
 }
 
-/* Puts what the reader is at; a definition with developer fields once more where another has taken its place. */
-static void put_described(gazhdor_writer *writer, gazhdor_reader *at)
+/* Whether two messages tell the same speed, distance, cycles and power. */
+static int same_amounts(const gazhdor_reader *x, const gazhdor_reader *y)
 {
-    gazhdor_answer answer = put(writer, at, 1);
-    if (answer.status == GAZHDOR_BLOCK && answer.reason == GAZHDOR_BLOCK_DESCRIBED) {
-        WANT(is_good(gazhdor_writer_definition(writer, at->definition.bytes, at->definition.length)));
-        answer = put(writer, at, 1);
+    for (uint32_t k = GAZHDOR_SPEED; k <= GAZHDOR_POWER; k++) {
+        double a = gazhdor_amount(x->block, k), b = gazhdor_amount(y->block, k);
+        if (a != b && (a == a || b == b))
+            return 0;
     }
-    WANT(is_good(answer));
+    return 1;
 }
 
-/* A file without any of its messages; a definition is put where it has developer fields, and else where the writer needs it. What is read of
- * it are the messages that were put. */
+/* Steps to the next message, past what may have been put to describe developer fields before a message like this one. */
+static void step_to(gazhdor_reader *back, const gazhdor_reader *at)
+{
+    do
+        WANT(gazhdor_next(back));
+    while (back->block.kind != GAZHDOR_MESSAGE || (!same_message(at, back) && describes(back)));
+}
+
+/* A file without any of its messages and definitions; or with all that describe developer fields or have them, and then none is refused. Else
+ * none is but one that has a field of which nothing is said, where the file describes it. What is read are the messages that were put, with
+ * what describes their developer fields among them, and the answers say whether their amounts are. */
 static void any_selection(gazhdor_text blocks)
 {
-    static uint8_t is_put[MOST];
+    enum { LEFT_OUT, OTHER_AMOUNTS, SAME_AMOUNTS };
+    static uint8_t puts[MOST];
     gazhdor_writer writer = GAZHDOR_CLOSED_WRITER;
     gazhdor_text bytes = GAZHDOR_NO_TEXT, read = GAZHDOR_NO_TEXT;
     uint64_t part = 1 + any() % 5;
+    int keeps = any() % 2 == 0;
     size_t number = 0;
     WANT(is_good(gazhdor_writer_open(&writer)));
     for (gazhdor_reader at = gazhdor_read(blocks); gazhdor_next(&at); number++) {
-        int is_message = at.block.kind == GAZHDOR_MESSAGE;
-        is_put[number] = is_message ? is_kept(&at) || any() % part == 0 : at.block.kind != GAZHDOR_DEFINITION || has_developers(at.block);
-        if (is_put[number])
-            put_described(&writer, &at);
+        puts[number] = LEFT_OUT;
+        if (at.block.kind != GAZHDOR_FILE_HEADER && !(keeps && is_of_developers(&at)) && any() % part != 0)
+            continue;
+        gazhdor_answer answer = put(&writer, &at, 1);
+        int is_other = is(answer, GAZHDOR_BLOCK, GAZHDOR_BLOCK_DESCRIBED, 0, 0, 0, 0) && has_developer(at.definition, 1);
+        WANT(is_good(answer) || (is_other && !keeps));
+        if (is_good(answer) && at.block.kind == GAZHDOR_MESSAGE)
+            puts[number] = answer.files == 1 ? SAME_AMOUNTS : OTHER_AMOUNTS;
     }
     WANT(is_good(gazhdor_writer_finish(&writer, &bytes)) && is_good(gazhdor_messages(bytes.bytes, bytes.length, &read)));
     gazhdor_reader back = gazhdor_read(read);
     number = 0;
     for (gazhdor_reader at = gazhdor_read(blocks); gazhdor_next(&at); number++) {
-        if (at.block.kind != GAZHDOR_MESSAGE || !is_put[number])
+        if (puts[number] == LEFT_OUT)
             continue;
-        do
-            WANT(gazhdor_next(&back));
-        while (back.block.kind != GAZHDOR_MESSAGE);
-        WANT(same_message(&at, &back));
+        step_to(&back, &at);
+        WANT(same_message(&at, &back) && same_amounts(&at, &back) == (puts[number] == SAME_AMOUNTS));
     }
     while (gazhdor_next(&back))
-        WANT(back.block.kind != GAZHDOR_MESSAGE);
+        WANT(back.block.kind != GAZHDOR_MESSAGE || describes(&back));
     gazhdor_free(read);
     gazhdor_free(bytes);
     gazhdor_writer_close(&writer);
@@ -325,7 +345,7 @@ static void untold_times(void)
     }
 }
 
-/* A developer field that is described as another in the file. */
+/* A developer field of which nothing is said, and which is described in the file. */
 static void described_otherwise(void)
 {
     gazhdor_writer writer = begun();
@@ -337,6 +357,38 @@ static void described_otherwise(void)
     WANT(gazhdor_put_definition(&to, 1, 20, &plain, 1) == GAZHDOR_PUT && gazhdor_put_message(&to, 1) == GAZHDOR_PUT);
     gazhdor_answer answer = gazhdor_writer_messages(&writer, to.bytes + place, to.message - place, to.bytes + to.message, to.length - to.message);
     WANT(is(answer, GAZHDOR_BLOCK, GAZHDOR_BLOCK_DESCRIBED, 0, 0, 0, 0));
+    gazhdor_writer_close(&writer);
+    free(to.bytes);
+}
+
+/* A developer field of values is described before its first message, by its name and its unit, and then no more. */
+static void described_before(void)
+{
+    gazhdor_writer writer = begun();
+    gazhdor_text bytes = GAZHDOR_NO_TEXT, read = GAZHDOR_NO_TEXT;
+    gazhdor_field fields[2] = { gazhdor_new_field(3, GAZHDOR_TYPE_UINT8, 1), gazhdor_new_developer(0, 5, GAZHDOR_TYPE_UINT16, 1) };
+    gazhdor_blocks to = gazhdor_write(NULL, 0, gazhdor_by_realloc, NULL);
+    fields[1].name = "Form power";
+    fields[1].unit = "watts";
+    WANT(gazhdor_put_header(&to, 0) == GAZHDOR_PUT && gazhdor_put_definition(&to, 1, 20, fields, 2) == GAZHDOR_PUT);
+    WANT(gazhdor_put_message(&to, 1) == GAZHDOR_PUT && gazhdor_set_value(&to, fields[1], 0, 300) == GAZHDOR_PUT);
+    size_t first = to.message;
+    for (int i = 0; i < 2; i++)
+        WANT(is(gazhdor_writer_messages(&writer, to.bytes + DEFINITION, first - DEFINITION, to.bytes + first, to.length - first),
+            GAZHDOR_GOOD, 0, 0, 1, 0, 1));
+    WANT(is_good(gazhdor_writer_finish(&writer, &bytes)) && is_good(gazhdor_messages(bytes.bytes, bytes.length, &read)));
+    static const uint32_t wanted[] = { GAZHDOR_MESSAGE_DEVELOPER_DATA_ID, GAZHDOR_MESSAGE_FIELD_DESCRIPTION, 20, 20 };
+    gazhdor_reader at = gazhdor_read(read);
+    for (size_t i = 0; i < 4; i++) {
+        do
+            WANT(gazhdor_next(&at));
+        while (at.block.kind != GAZHDOR_MESSAGE);
+        WANT(at.message == wanted[i]);
+        gazhdor_field power = gazhdor_named(at.definition, "Form power");
+        WANT(power.there == (i > 1) && (!power.there || (strcmp(power.unit, "watts") == 0 && gazhdor_value(power, at.block, 0) == 300)));
+    }
+    gazhdor_free(read);
+    gazhdor_free(bytes);
     gazhdor_writer_close(&writer);
     free(to.bytes);
 }
@@ -443,6 +495,7 @@ int main(int argc, char **argv)
     refused_blocks();
     untold_times();
     described_otherwise();
+    described_before();
     lies();
     for (int i = 2; i < argc && count_of_files < FILES; i++) {
         gazhdor_text *file = &files[count_of_files], *blocks = &blocks_of[count_of_files];

@@ -30,7 +30,7 @@ use Rattle.fit_writer.specs.declared.refusal.Refusal.TheVariants.{NoFile, Block,
 use Rattle.fit_writer.specs.inner.Describing.{Becomes}
 use Rattle.fit_writer.specs.inner.OpenFiles.{IsHalfPut, current_with}
 use Rattle.fit_writer.specs.inner.Places.{IsLone}
-use Rattle.fit_writer.specs.inner.Plain.{IsPlainMessage, IsUnadded, fields_made}
+use Rattle.fit_writer.specs.inner.Plain.{IsMade, IsUnadded, fields_made}
 use Rattle.fit_writer.specs.inner.Puts.{IsTold, IsToldIn, IsUnplaced, told_after}
 
 -- the form that a message of these fields has, with its slots
@@ -56,8 +56,7 @@ placed_as s d a b names defined local h = record {
 
 -- ---- what is told of it
 
-module _ (s : List (Record Global)) (d : MessageDef Global) (slots : List Slot) (block : List ℕ)
-    (plain : IsPlainMessage d.fields slots block) (none : d.dev ≡ None)
+module _ (s : List (Record Global)) (d : MessageDef Global) (slots : List Slot) (block : List ℕ) (plain : IsMade d.fields slots block) (none : d.dev ≡ None)
   where
     items : map (items_read block) (take (length d.fields) slots) ≡ map (items_read block) slots
     items = ap (map (items_read block)) (all_taken d.fields slots plain.fit)
@@ -89,7 +88,7 @@ module _ (s : List (Record Global)) (d : MessageDef Global) (slots : List Slot) 
 abbrev pub plain_definition : ℕ → ℕ → List FieldDef → MessageDef Global
 plain_definition local global fields = record { local = local; reserved = 0; order = Little; global = global; fields = fields; dev = None }
 
-module _ (s : List (Record Global)) (local global : ℕ) (fields : List FieldDef) (slots : List Slot) (block : List ℕ) (plain : IsPlainMessage fields slots block)
+module _ (s : List (Record Global)) (local global : ℕ) (fields : List FieldDef) (slots : List Slot) (block : List ℕ) (plain : IsMade fields slots block)
   where
     abbrev form : Form
     form = made_form (plain_definition local global fields) slots
@@ -98,8 +97,8 @@ module _ (s : List (Record Global)) (local global : ℕ) (fields : List FieldDef
     made = plain_reading global (fields_made fields slots block)
 
     is_form : made_form (plain_definition local global fields) [] ≡ plain_form local made
-    is_form = ap (λ (fs : List FieldDef). made_form (plain_definition local global fs) [])
-        (sym (made_fields fields slots block (plain_long fields slots block plain)))
+    is_form = ap (λ (fs : List FieldDef). made_form (plain_definition local global fs) []) (sym (made_fields fields slots block
+        (plain_long fields slots block plain)))
 
     pub is_added : (after : List (Record Global)) → IsTold s form block None after → IsAdded s after local made
     is_added after told = record {
@@ -115,7 +114,7 @@ module _ (s : List (Record Global)) (local global : ℕ) (fields : List FieldDef
 -- ---- results that are handed on
 
 pub ok_added : (old new : OpenFile) (f : Form) (local global : ℕ) (fields : List FieldDef) (slots : List Slot) (block : List ℕ) (r : Result (Unit {0}) Refusal)
-    → IsPlainMessage fields slots block → f ≡ made_form (plain_definition local global fields) slots → OnOk r (IsToldIn old new f block None)
+    → IsMade fields slots block → f ≡ made_form (plain_definition local global fields) slots → OnOk r (IsToldIn old new f block None)
     → OnOk r (Becomes old new (λ before after. IsAdded before after local (plain_reading global (fields_made fields slots block))))
 ok_added old new f local global fields slots block (Err why) plain same h = tt
 ok_added old new f local global fields slots block (Ok x) plain same h =
@@ -124,7 +123,7 @@ ok_added old new f local global fields slots block (Ok x) plain same h =
     (told.0, is_added old.stream local global fields slots block plain told.0 told.1, told.2)
 
 unadded : (old new : OpenFile) (d : MessageDef Global) (local global : ℕ) (fields : List FieldDef) (slots : List Slot) (block : List ℕ) (why : Refusal)
-    → IsPlainMessage fields slots block → d.global ≡ global → IsHalfPut old new d why
+    → IsMade fields slots block → d.global ≡ global → IsHalfPut old new d why
     → IsUnplaced old.stream (made_form (plain_definition local global fields) slots) block None why
     → IsUnadded old new local (plain_reading global (fields_made fields slots block)) why
 unadded old new d local global fields slots block TooLong plain same half h =
@@ -141,7 +140,7 @@ unadded old new d local global fields slots block Full plain same half h = absur
 unadded old new d local global fields slots block Time plain same half h = absurd h
 
 pub err_unadded : (old new : OpenFile) (f : Form) (d : MessageDef Global) (local global : ℕ) (fields : List FieldDef) (slots : List Slot) (block : List ℕ)
-    (r : Result (Unit {0}) Refusal) → IsPlainMessage fields slots block → f ≡ made_form (plain_definition local global fields) slots → d.global ≡ global
+    (r : Result (Unit {0}) Refusal) → IsMade fields slots block → f ≡ made_form (plain_definition local global fields) slots → d.global ≡ global
     → IfErr r (IsHalfPut old new d) → IfErr r (IsUnplaced old.stream f block None)
     → IfErr r (IsUnadded old new local (plain_reading global (fields_made fields slots block)))
 err_unadded old new f d local global fields slots block (Ok x) plain same is half h = tt
@@ -150,7 +149,7 @@ err_unadded old new f d local global fields slots block (Err why) plain same is 
 
 -- ---- it stands by itself
 
-pub plain_lone : (d : LoneDefinition) (local global : ℕ) (fields : List FieldDef) (slots : List Slot) (block : List ℕ) → IsPlainMessage fields slots block
+pub plain_lone : (d : LoneDefinition) (local global : ℕ) (fields : List FieldDef) (slots : List Slot) (block : List ℕ) → IsMade fields slots block
     → local < 16 → global < 2 ^ 16 → length fields < 256 → d.definition ≡ plain_definition local global fields → d.codes ≡ [] → d.slots ≡ slots → IsLone d
 plain_lone d local global fields slots block plain few small short definition codes same =
     let fit : SlotsFit (lone_layout (plain_definition local global fields) []) slots =
@@ -178,7 +177,7 @@ fresh_form local global fields slots [] bytes none = refl
 fresh_form local global fields slots (c ∷ codes) bytes none = absurd (cc none)
 
 module _ (old new : OpenFile) (f : Form) (local global : ℕ) (fields : List FieldDef) (slots : List Slot) (block bytes : List ℕ)
-    (self : List (FieldDef × Items Global)) (plain : IsPlainMessage fields slots block) (same : f ≡ made_form (plain_definition local global fields) slots)
+    (self : List (FieldDef × Items Global)) (plain : IsMade fields slots block) (same : f ≡ made_form (plain_definition local global fields) slots)
     (is : bytes ≡ block) (view : fields_made fields slots block ≡ self)
   where
     pub ok_plain : (r : Result (Unit {0}) Refusal) → OnOk r (IsToldIn old new f bytes None)

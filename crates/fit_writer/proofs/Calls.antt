@@ -60,7 +60,9 @@ keeps_all files old new f g block why same half = go why (subst (λ (h : Form). 
     go Full is = held is
     go Time is = held is
     go Described is = held is
-    go TooLong is = held is
+    go TooLong (inl is) = inl (held is)
+    go TooLong (inr (after, puts, is)) =
+        inr (after, puts, ap (λ (c : Current). let w : Writing = record { files = files; current = Some c } in w) is)
 
 pub refusal_at : (c : Current) (definition block : List ℕ) (f : Form) (slots : List Slot) (why : Refusal) → why_no_lone_definition definition ≡ None
     → f ≡ form_in definition → slots ≡ slots_in definition → IsRefusedPut c.records f block (why_no_message_at block slots) why

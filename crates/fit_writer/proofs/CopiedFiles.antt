@@ -1,6 +1,6 @@
 -- The blocks of a chain that are put one after another make that chain.
-use Rattle.std.proofs.Common.{◌≡◌, ◌∙◌, ◌+◌, inl, inr, ℕ, List, [], ◌∷◌, ◌++◌, refl, sym, ap, ap₂, subst, length, append_assoc}
-use Rattle.std.proofs.lemmas.List.{append-nil, reverse-append, reverse-reverse}
+use Rattle.std.proofs.Common.{◌≡◌, ◌∙◌, ◌+◌, inl, inr, ℕ, List, [], ◌∷◌, ◌++◌, refl, sym, ap, ap₂, subst, length}
+use Rattle.std.proofs.lemmas.List.{reverse-append, reverse-reverse}
 use Rattle.std.proofs.lemmas.Option.{none-some, same_Some}
 use Rattle.std.specs.Global.{Global}
 use Rattle.std.specs.Io.KnownBytes.{Appends}
@@ -14,7 +14,7 @@ use Rattle.fit_profile.specs.Described.{namings_at}
 use Rattle.fit_profile.specs.Looks.{known}
 use Rattle.fit_record.specs.Environment.{empty_environment}
 use Rattle.fit_record.specs.Files.{IsWellFormed, body, chain_bytes}
-use Rattle.fit_record.specs.Records.{AllFit, records_bytes}
+use Rattle.fit_record.specs.Records.{records_bytes}
 use Rattle.fit_record.specs.declared.definition.MessageDef.{MessageDef}
 use Rattle.fit_record.specs.declared.file.FitFile.{FitFile}
 use Rattle.fit_record.specs.declared.message.Record.{Record}
@@ -26,13 +26,13 @@ use Rattle.fit_from_messages.proofs.EventsBack.{written}
 use Rattle.fit_from_messages.proofs.HeaderBack.{header_back}
 use Rattle.fit_from_messages.proofs.SmallSizes.{AreSmall}
 use Rattle.fit_from_messages.specs.Parts.{definition_in, header_in}
-use Rattle.fit_writer.proofs.CopiedPuts.{AreFit, can_put, exact_put}
+use Rattle.fit_writer.proofs.CopiedPuts.{can_put, exact_put}
 use Rattle.fit_writer.proofs.HeardChains.{IsGood, chain_is, file_heard, files_heard, good_chain, latest_are}
 use Rattle.fit_writer.proofs.SaidTold.{IsSaid, message_heard}
 use Rattle.fit_writer.specs.Laws.{ChainsCanBeCopied, Copies, CopiesAreExact, latest_definition}
 use Rattle.fit_writer.specs.Reading.{form_in}
 use Rattle.fit_writer.specs.Written.{Current, IsEnded, IsLastHeader, IsPut, Writing, data_length, nothing_written}
-use Rattle.fit_writer.specs.Written.{with_definition, with_records}
+use Rattle.fit_writer.specs.Written.{with_records}
 
 -- ---- what blocks say
 
@@ -59,26 +59,7 @@ module _ (h : Header) (n : ℕ) (records : List (Record Global)) (heard : List (
   pub defined_there : (d : MessageDef Global) → AreSmall (Define d ∷ records) → definition_in (event_block (file_heard h n records heard) (item (Define d))) ≡ d
   defined_there d are = definition_said (file_heard h n records heard) d (small_there (Define d) are)
 
--- ---- records that fit, the latest first
-
-fit_from : (records before : List (Record Global)) → AllFit (known before) records → AreFit before → AreFit (reverse records ++ before)
-fit_from [] before fit are = are
-fit_from (r ∷ records) before fit are =
-    subst AreFit (sym (ap (λ l. l ++ before) (reverse-append (r ∷ []) records) ∙ append_assoc (reverse records) (r ∷ []) before))
-    (fit_from records (r ∷ before) fit.1 (fit.0, are))
-
-pub fit_reversed : (records : List (Record Global)) → AllFit empty_environment (reverse records) → AreFit records
-fit_reversed records fit =
-    subst AreFit (append-nil (reverse (reverse records)) ∙ reverse-reverse records) (fit_from (reverse records) [] fit tt)
-
-fit_before : (d : Option (MessageDef Global)) (before : List (Record Global)) → AreFit (with_definition d before) → AreFit before
-fit_before None before fit = fit
-fit_before (Some d) before fit = fit.1
-
 -- ---- a file
-
-abbrev pub FitsNow : Writing → Type 0
-FitsNow w = (g : Current) → w.current ≡ Some g → AreFit g.records
 
 -- The records of a file were put after these events.
 pub record IsCopied (h : Header) (records : List (Record Global)) (heard : List (Event Global)) (w : Writing) : Type 0 where
@@ -97,57 +78,46 @@ grown h records more now heard before w f copied there is same =
       current = ap (λ (x : Writing). x.current) is ∙ ap₂ (λ (g : Current) rs. Some (record g { records = rs })) own same;
     }
 
-now_fits : (before w : Writing) (f : Current) (now : List (Record Global)) → FitsNow w → w ≡ with_records before f now → AreFit now
-now_fits before w f now fits is = fits (record f { records = now }) (ap (λ (x : Writing). x.current) is)
-
-before_fits : (before : Writing) (f : Current) → before.current ≡ Some f → AreFit f.records → FitsNow before
-before_fits before f there fit g is = subst (λ (c : Current). AreFit c.records) (same_Some f g (sym there ∙ is)) fit
-
 -- the definition message that the block of its event says was put
 abbrev PutsOne : List (Event Global) → Option Current → Writing → Writing → MessageDef Global → Type 0
 PutsOne front o before w d =
     IsSomeAnd o (λ f. w ≡ with_records before f (Define (definition_in (event_block front (item (Define d)))) ∷ f.records))
 
 pub records_copied : (h : Header) (n : ℕ) → HeaderFits h n → (records : List (Record Global)) (heard : List (Event Global)) → AreSmall records
-    → (w : Writing) → Copies (file_heard h n records heard) w → FitsNow w → IsCopied h records heard w
-records_copied h n header_fits [] heard are w (start, copies, begins) fits = record {
+    → (w : Writing) → Copies (file_heard h n records heard) w → IsCopied h records heard w
+records_copied h n header_fits [] heard are w (start, copies, begins) = record {
   start = start;
   copies = copies;
   ended = begins.0;
   current = begins.1 ∙ ap (λ k. Some (current_by k [])) (header_said heard h n header_fits);
 }
-records_copied h n header_fits (Define d ∷ records) heard are w (before, copies, puts) fits =
+records_copied h n header_fits (Define d ∷ records) heard are w (before, copies, puts) =
     go (records_copied h n header_fits records heard are.2 before copies) before.current refl puts
   where
-    go : (FitsNow before → IsCopied h records heard before) → (o : Option Current) → before.current ≡ o → PutsOne (file_heard h n records heard) o before w d
+    go : IsCopied h records heard before → (o : Option Current) → before.current ≡ o → PutsOne (file_heard h n records heard) o before w d
         → IsCopied h (Define d ∷ records) heard w
-    go rec None there is = absurd is
-    go rec (Some f) there is =
+    go copied None there is = absurd is
+    go copied (Some f) there is =
         let d' = definition_in (event_block (file_heard h n records heard) (item (Define d))) in
-        let fit = now_fits before w f (Define d' ∷ f.records) fits is in
-        let copied = rec (before_fits before f there fit.1) in
         let own : f ≡ current_by h records = same_Some f (current_by h records) (sym there ∙ copied.current) in
         grown h records (Define d ∷ records) (Define d' ∷ f.records) heard before w f copied there is
         (ap₂ (λ (x : MessageDef Global) (c : Current). let r : Record Global = Define x in r ∷ c.records) (defined_there h n records heard d are) own)
-records_copied h n header_fits (Data v ∷ records) heard are w (before, copies, puts) fits =
+records_copied h n header_fits (Data v ∷ records) heard are w (before, copies, puts) =
     go (records_copied h n header_fits records heard are.2 before copies) before.current refl puts
   where
-    go : (FitsNow before → IsCopied h records heard before) → (o : Option Current) → before.current ≡ o → IsSomeAnd o (λ f. (after : List (Record Global))
+    go : IsCopied h records heard before → (o : Option Current) → before.current ≡ o → IsSomeAnd o (λ f. (after : List (Record Global))
         × IsPut f.records after (form_in (latest_definition (file_heard h n records heard) v.local))
         (event_block (file_heard h n records heard) (item (Data v))) × (w ≡ with_records before f after))
         → IsCopied h (Data v ∷ records) heard w
-    go rec None there is = absurd is
-    go rec (Some f) there (after, put, is) =
+    go copied None there is = absurd is
+    go copied (Some f) there (after, put, is) =
         let front = file_heard h n records heard in
-        let fit = now_fits before w f after fits is in
-        let earlier : AreFit f.records = fit_before put.defined f.records (subst AreFit put.records fit).1 in
-        let copied = rec (before_fits before f there earlier) in
         let own : f ≡ current_by h records = same_Some f (current_by h records) (sym there ∙ copied.current) in
         let here : f.records ≡ latest_records front = ap (λ (c : Current). c.records) own ∙ sym (latest_are h n records heard) in
         let put_there : IsPut (latest_records front) after (form_in (latest_definition front v.local)) (event_block front (item (Data v))) =
         subst (λ rs. IsPut rs after (form_in (latest_definition front v.local)) (event_block front (item (Data v)))) here put in
         grown h records (Data v ∷ records) after heard before w f copied there is
-        (exact_put front v (said_there h n records heard v are) after put_there fit
+        (exact_put front v (said_there h n records heard v are) after put_there
         ∙ ap (λ rs. let r : Record Global = Data v in r ∷ rs) (latest_are h n records heard))
 
 -- ---- files
@@ -158,7 +128,7 @@ last_all P [] f all = (tt, all.0)
 last_all P (g ∷ files) f all = let rest = last_all P files f all.1 in ((all.0, rest.0), rest.1)
 
 -- its length is that of its data
-data_is : (f : FitFile Global) → data_length (reverse f.records) ≡ length (body f)
+pub data_is : (f : FitFile Global) → data_length (reverse f.records) ≡ length (body f)
 data_is f = ap (λ rs. length (records_bytes empty_environment rs)) (reverse-reverse f.records)
 
 own_header : (f : FitFile Global) (last : Header) → IsWellFormed f → IsLastHeader (data_length (reverse f.records)) f.header last → last ≡ f.header
@@ -170,10 +140,7 @@ pub files_copied : (files : List (FitFile Global)) → AllByRecursion IsGood fil
 files_copied [] all w none done ended well = ended.0 (ap (λ (x : Writing). x.current) none) ∙ ap (λ (x : Writing). x.files) none
 files_copied (f ∷ files) all w copies done ended well =
     let Well : List (FitFile Global) → Type 0 = AllByRecursion IsWellFormed in
-    let fits : FitsNow w = λ g is.
-    let (last, lasts, same) = ended.1 g is in
-    fit_reversed g.records (last_all IsWellFormed w.files (record { header = last; records = reverse g.records }) (subst Well same well)).1.records in
-    let copied = records_copied f.header (length (body f)) all.0.well.header (reverse f.records) (files_heard files) all.0.small w copies fits in
+    let copied = records_copied f.header (length (body f)) all.0.well.header (reverse f.records) (files_heard files) all.0.small w copies in
     let (last, lasts, same) = ended.1 (current_by f.header (reverse f.records)) copied.current in
     let now : done ≡ w.files ++ f ∷ [] =
     same ∙ ap₂ (λ k rs. w.files ++ record { header = k; records = rs } ∷ []) (own_header f last all.0.well lasts) (reverse-reverse f.records) in

@@ -1,5 +1,5 @@
 -- A message of a chain that is put after the records that are before it there is the message itself.
-use Rattle.std.proofs.Common.{◌≡◌, ◌∙◌, inl, inr, ℕ, List, [], ◌∷◌, refl, sym, ap, subst, arith, length, map}
+use Rattle.std.proofs.Common.{◌≡◌, ◌∙◌, inl, inr, ℕ, List, ◌∷◌, refl, sym, ap, ap₂, subst, arith, length, map}
 use Rattle.std.proofs.lemmas.List.{length-map}
 use Rattle.std.proofs.lemmas.Option.{none-some, same_Some}
 use Rattle.std.proofs.lemmas.Slice.Zip.{length-zip, seconds-zip}
@@ -26,12 +26,7 @@ use Rattle.fit_from_messages.proofs.MessageBack.{as_many}
 use Rattle.fit_writer.proofs.SaidTold.{IsSaid, few_types, form_by, told_by}
 use Rattle.fit_writer.specs.Laws.{latest_definition}
 use Rattle.fit_writer.specs.Reading.{Form, Reading, form_in, reading_after, reading_by, said_reading}
-use Rattle.fit_writer.specs.Written.{CanName, IsNeeded, IsPlaced, IsPut, KeepsOffset, NeedsTimestamp, SaysSame, with_definition}
-
--- records of a file, the latest first, of which each can come after those before it
-abbrev pub AreFit : List (Record Global) → Type 0
-AreFit [] = Unit {0}
-AreFit (r ∷ earlier) = Fits (known earlier) r × AreFit earlier
+use Rattle.fit_writer.specs.Written.{CanName, DescribesBefore, IsNeeded, IsPlaced, IsPut, KeepsOffset, NeedsTimestamp, SaysSame, with_definition}
 
 -- ---- lists that are zipped with the same
 
@@ -143,9 +138,12 @@ module _ (heard : List (Event Global)) (v : Values Global) (s : IsSaid heard v) 
   can_put = record {
     form = form;
     needed = inl (needs_none, refl);
+    described = before;
+    describes = inl refl;
     defined = None;
     message = v;
     records = refl;
+    fits = subst (λ o. IsSomeAnd o (DataFits v)) (sym s.defined) s.fits;
     told = s.told;
     kept = λ k. sym s.offset;
     without = λ never. without v.offset refl never;
@@ -167,8 +165,18 @@ module _ (heard : List (Event Global)) (v : Values Global) (s : IsSaid heard v) 
     form_is : put.form ≡ form
     form_is = needed_is put.form put.needed
 
+    -- its own local message type says the same, so nothing is described
+    none_needed : DescribesBefore before put.described form (CanName before block) → put.described ≡ before
+    none_needed (inl same) = same
+    none_needed (inr (needs, describes)) = absurd (needs.1 form.definition.local s.p can_name says_same)
+
+    described_is : put.described ≡ before
+    described_is = none_needed (subst (λ f. DescribesBefore before put.described f (CanName before block)) form_is put.describes)
+
     placed : IsPlaced before form (CanName before block) put.defined put.message.local
-    placed = subst (λ f. IsPlaced before f (CanName before block) put.defined put.message.local) form_is put.placed
+    placed =
+        subst (λ rs. IsPlaced rs form (CanName before block) put.defined put.message.local) described_is
+        (subst (λ f. IsPlaced put.described f (CanName before block) put.defined put.message.local) form_is put.placed)
 
     own_type : put.message.local ≡ v.local
     own_type = placed.own s.p can_name says_same ∙ local_is
@@ -180,8 +188,11 @@ module _ (heard : List (Event Global)) (v : Values Global) (s : IsSaid heard v) 
     none_defined : put.defined ≡ None
     none_defined = none_new put.defined refl
 
-    pub records_are : after ≡ Data put.message ∷ before
-    records_are = put.records ∙ ap (λ o. Data put.message ∷ with_definition o before) none_defined
+    earlier_is : with_definition put.defined put.described ≡ before
+    earlier_is = ap₂ with_definition none_defined described_is
+
+    records_are : after ≡ Data put.message ∷ before
+    records_are = put.records ∙ ap (λ rs. let r : Record Global = Data put.message in r ∷ rs) earlier_is
 
     own_offset : (offset : Option ℕ) → v.offset ≡ offset → put.message.offset ≡ v.offset
     own_offset (Some o) is = put.kept (keeps o is) ∙ s.offset
@@ -192,7 +203,7 @@ module _ (heard : List (Event Global)) (v : Values Global) (s : IsSaid heard v) 
 
     same_told : reading_after before put.message ≡ reading_after before v
     same_told =
-        ap (λ o. reading_after (with_definition o before) put.message) (sym none_defined) ∙ put.told
+        ap (λ rs. reading_after rs put.message) (sym earlier_is) ∙ put.told
         ∙ ap (λ f. Some (said_reading f block)) form_is ∙ sym s.told
 
     same_reading : reading_by s.p.definition s.p.dev_codes (namings_at before v.local) put.message
@@ -204,9 +215,9 @@ module _ (heard : List (Event Global)) (v : Values Global) (s : IsSaid heard v) 
         (or_else (field_time s.p.definition put.message) (header_time (previous_time before) put.message.offset))) (sym own_type)
         ∙ same_Some _ _ (sym (told_by before put.message s.p defined) ∙ same_told ∙ told_by before v s.p s.defined)
 
-    pub exact_put : AreFit after → after ≡ Data v ∷ before
-    exact_put fit =
-        let first : Fits (known before) (Data put.message) = (subst AreFit records_are fit).0 in
+    pub exact_put : after ≡ Data v ∷ before
+    exact_put =
+        let first : Fits (known before) (Data put.message) = subst (λ rs. Fits (known rs) (Data put.message)) earlier_is put.fits in
         let fits : DataFits put.message s.p = subst (λ o. IsSomeAnd o (DataFits put.message)) defined first in
         let items = same_items before s.p v.local s.defined put.message v _ _ fits s.fits same_reading in
         let offset = own_offset v.offset refl in

@@ -1,5 +1,5 @@
 -- The next block of a chain is put, unless memory or room is wanting.
-use Rattle.std.proofs.Common.{◌≡◌, ◌∙◌, ◌⊎◌, ◌+◌, ◌<◌, ◌≤◌, inl, inr, ℕ, List, [], ◌∷◌, ◌++◌, refl, sym, ap, subst, arith, length}
+use Rattle.std.proofs.Common.{◌≡◌, ◌∙◌, ◌+◌, ◌<◌, ◌≤◌, ◌^◌, inl, inr, ℕ, List, [], ◌∷◌, ◌++◌, refl, sym, ap, subst, arith, length}
 use Rattle.std.proofs.lemmas.List.{length-append, length-reverse}
 use Rattle.std.proofs.lemmas.Option.{none-some}
 use Rattle.std.specs.Global.{Global}
@@ -10,6 +10,8 @@ use Rattle.fit_frame.specs.Header.{HeaderFits}
 use Rattle.fit_frame.specs.declared.header.Header.{Header}
 use Rattle.fit_messages.specs.Blocks.{event_block}
 use Rattle.fit_record.specs.Files.{body, chain_limit}
+use Rattle.fit_record.specs.declared.definition.MessageDef.{MessageDef}
+use Rattle.fit_record.specs.declared.environment.Defined.{Defined}
 use Rattle.fit_record.specs.declared.file.FitFile.{FitFile}
 use Rattle.fit_record.specs.declared.message.Record.{Record}
 use Rattle.fit_record.specs.declared.message.Record.TheVariants.{Define, Values as Data}
@@ -18,15 +20,16 @@ use Rattle.fit_report.specs.Heard.{latest_records}
 use Rattle.fit_from_messages.proofs.SmallSizes.{AreSmall}
 use Rattle.fit_from_messages.specs.Alone.{why_no_lone_definition, why_no_lone_message}
 use Rattle.fit_from_messages.specs.Parts.{definition_in}
-use Rattle.fit_writer.proofs.CopiedFiles.{FitsNow, current_by, fit_reversed, records_copied}
-use Rattle.fit_writer.proofs.CopiedPuts.{can_name, needed_is, needs_none, says_same}
+use Rattle.fit_writer.proofs.CopiedFiles.{current_by, data_is, defined_there, records_copied}
+use Rattle.fit_writer.proofs.CopiedPuts.{can_name, exact_put, needed_is, needs_none, says_same}
 use Rattle.fit_writer.proofs.CopyRefusals.{lone_definition, lone_header, lone_message}
+use Rattle.fit_writer.proofs.Grown.{no_shorter}
 use Rattle.fit_writer.proofs.HeardChains.{IsGood, chain_is, file_heard, files_heard, good_chain, latest_are}
 use Rattle.fit_writer.proofs.SaidTold.{IsSaid, latest_by, message_heard}
 use Rattle.fit_writer.specs.Laws.{Copies, CopiesAreTaken, IsCopyRefusal, latest_definition}
-use Rattle.fit_writer.specs.Reading.{form_in}
-use Rattle.fit_writer.specs.Written.{Current, IsDefinitionRefusal, IsEnded, IsHeaderRefusal, IsMessageRefusal, IsPlaceRefusal, IsPut, SaysSame}
-use Rattle.fit_writer.specs.Written.{Writing, file_count, with_records}
+use Rattle.fit_writer.specs.Reading.{Form, form_in}
+use Rattle.fit_writer.specs.Written.{CanName, Current, IsDefinitionRefusal, IsEnded, IsHeaderRefusal, IsMessageRefusal, IsNeeded, IsPlaceRefusal, IsPut}
+use Rattle.fit_writer.specs.Written.{NeedsDescriptions, SaysSame, Writing, data_length, file_count, with_records}
 use Rattle.fit_writer.specs.declared.refusal.Refusal.{Refusal}
 use Rattle.fit_writer.specs.declared.refusal.Refusal.TheVariants.{NoFile, TooManyFiles, Block, Message, Described, Full, Time, TooLong, NoMemory}
 
@@ -115,6 +118,7 @@ record AfterRecords (heard : List (Event Global)) (r : Record Global) : Type 0 w
   pub front : List (Event Global)
   pub are : heard ≡ file_heard h n records front
   pub small : AreSmall (r ∷ records)
+  pub short : data_length (r ∷ records) < 2 ^ 32
 
 abbrev Step : List (Event Global) → Event Global → Type 0
 Step heard (header h n) = AfterFiles heard h n
@@ -126,18 +130,19 @@ Steps [] = Unit {0}
 Steps (x ∷ heard) = Step heard x × Steps heard
 
 file_steps : (h : Header) (n : ℕ) → HeaderFits h n → (records : List (Record Global)) (files : List (FitFile Global)) → AreSmall records
-    → length files < chain_limit → Steps (files_heard files) → Steps (file_heard h n records (files_heard files))
-file_steps h n fits [] files small few steps = (record { files = files; are = refl; fits = fits; few = few }, steps)
-file_steps h n fits (r ∷ records) files small few steps = (
-  record { h = h; n = n; fits = fits; records = records; front = files_heard files; are = refl; small = small },
-  file_steps h n fits records files small.2 few steps,
+    → data_length records < 2 ^ 32 → length files < chain_limit → Steps (files_heard files) → Steps (file_heard h n records (files_heard files))
+file_steps h n fits [] files small short few steps = (record { files = files; are = refl; fits = fits; few = few }, steps)
+file_steps h n fits (r ∷ records) files small short few steps = (
+  record { h = h; n = n; fits = fits; records = records; front = files_heard files; are = refl; small = small; short = short },
+  file_steps h n fits records files small.2 (omega (arith, short, no_shorter records r)) few steps,
 )
 
 files_steps : (files : List (FitFile Global)) → AreGood files → length files ≤ chain_limit → Steps (files_heard files)
 files_steps [] all few = tt
 files_steps (f ∷ files) all few = (
   tt,
-  file_steps f.header (length (body f)) all.0.well.header (reverse f.records) files all.0.small (omega (arith, few))
+  file_steps f.header (length (body f)) all.0.well.header (reverse f.records) files all.0.small
+      (omega (arith, data_is f, all.0.well.header.data_fits)) (omega (arith, few))
       (files_steps files all.1 (omega (arith, few))),
 )
 
@@ -147,13 +152,9 @@ step_at (y ∷ later) heard x steps = step_at later heard x steps.1
 
 -- ---- refusals
 
--- memory or room is wanting
-abbrev IsWant : Refusal → Type 0
-IsWant why = (why ≡ NoMemory) ⊎ (why ≡ TooLong)
-
 header_taken : (heard : List (Event Global)) (h : Header) (n : ℕ) → AfterFiles heard h n → (w : Writing) → Copies heard w → (why : Refusal)
-    → IsHeaderRefusal w (event_block heard (header h n)) why → IsWant why
-header_taken heard h n s w copies NoMemory is = inl refl
+    → IsHeaderRefusal w (event_block heard (header h n)) why → why ≡ NoMemory
+header_taken heard h n s w copies NoMemory is = refl
 header_taken heard h n s w copies (Block reason) is = absurd (none-some reason (sym (lone_header heard h n s.fits) ∙ is))
 header_taken heard h n s w copies TooManyFiles is =
     let count : file_count w ≡ length s.files = files_counted s.files w (subst (λ es. Copies es w) s.are copies) in
@@ -167,68 +168,90 @@ header_taken heard h n s w copies Time is = absurd is
 header_taken heard h n s w copies Described is = absurd is
 header_taken heard h n s w copies TooLong is = absurd is
 
-definition_taken : (c : Current) (block : List ℕ) → why_no_lone_definition block ≡ None → (why : Refusal)
-    → IsDefinitionRefusal (Some c) block why → IsWant why
-definition_taken c block none NoMemory is = inl refl
-definition_taken c block none TooLong is = inr refl
-definition_taken c block none (Block reason) is = absurd (none-some reason (sym none ∙ is))
-definition_taken c block none NoFile is = absurd is
-definition_taken c block none (Message reason) is = absurd is
-definition_taken c block none TooManyFiles is = absurd is
-definition_taken c block none Full is = absurd is
-definition_taken c block none Time is = absurd is
-definition_taken c block none Described is = absurd is
+definition_taken : (c : Current) (block : List ℕ) → why_no_lone_definition block ≡ None
+    → data_length (Define (definition_in block) ∷ c.records) < 2 ^ 32 → (why : Refusal)
+    → IsDefinitionRefusal (Some c) block why → why ≡ NoMemory
+definition_taken c block none short NoMemory is = refl
+definition_taken c block none short TooLong is = let long = is.1 in absurd (omega (arith, long, short))
+definition_taken c block none short (Block reason) is = absurd (none-some reason (sym none ∙ is))
+definition_taken c block none short NoFile is = absurd is
+definition_taken c block none short (Message reason) is = absurd is
+definition_taken c block none short TooManyFiles is = absurd is
+definition_taken c block none short Full is = absurd is
+definition_taken c block none short Time is = absurd is
+definition_taken c block none short Described is = absurd is
+
+-- Its own local message type says the same, so nothing is to be described.
+never_describes : {X : Type 0} (heard : List (Event Global)) (v : Values Global) (s : IsSaid heard v) (needed : Form)
+    → IsNeeded (latest_records heard) (form_in (latest_definition heard v.local)) (event_block heard (item (Data v))) needed
+    → NeedsDescriptions (latest_records heard) needed (CanName (latest_records heard) (event_block heard (item (Data v)))) → X
+never_describes heard v s needed needs (never, none_says) =
+    let form = form_in (latest_definition heard v.local) in
+    let same : needed ≡ form = needed_is heard v s needed needs in
+    absurd (subst (λ f. (local : ℕ) (p : Defined Global) → CanName (latest_records heard) (event_block heard (item (Data v))) local
+    → SaysSame (latest_records heard) local f p → ⊥) same none_says form.definition.local s.p (can_name heard v s) (says_same heard v s))
 
 message_taken : (heard : List (Event Global)) (v : Values Global) (s : IsSaid heard v) (c : Current) → c.records ≡ latest_records heard
-    → why_no_lone_definition (latest_definition heard v.local) ≡ None
+    → data_length (Data v ∷ latest_records heard) < 2 ^ 32 → why_no_lone_definition (latest_definition heard v.local) ≡ None
     → why_no_lone_message (latest_definition heard v.local) (event_block heard (item (Data v))) ≡ None → (why : Refusal)
-    → IsMessageRefusal (Some c) (latest_definition heard v.local) (event_block heard (item (Data v))) why → IsWant why
-message_taken heard v s c same none stands NoMemory is = inl refl
-message_taken heard v s c same none stands TooLong is = inr refl
-message_taken heard v s c same none stands (Block reason) is = absurd (none-some reason (sym none ∙ is))
-message_taken heard v s c same none stands (Message reason) is = absurd (none-some reason (sym stands ∙ is.1))
-message_taken heard v s c same none stands NoFile is = absurd is.2
-message_taken heard v s c same none stands TooManyFiles is = absurd is.2
-message_taken heard v s c same none stands Full is =
+    → IsMessageRefusal (Some c) (latest_definition heard v.local) (event_block heard (item (Data v))) why → why ≡ NoMemory
+message_taken heard v s c same short none stands NoMemory is = refl
+message_taken heard v s c same short none stands (Block reason) is = absurd (none-some reason (sym none ∙ is))
+message_taken heard v s c same short none stands (Message reason) is = absurd (none-some reason (sym stands ∙ is.1))
+message_taken heard v s c same short none stands NoFile is = absurd is.2
+message_taken heard v s c same short none stands TooManyFiles is = absurd is.2
+message_taken heard v s c same short none stands Full is =
     let (t, needs, full) = subst (λ rs. IsPlaceRefusal rs (form_in (latest_definition heard v.local)) (event_block heard (item (Data v))) Full) same is.2 in
     absurd (needs_none heard v s t needs)
-message_taken heard v s c same none stands Time is =
+message_taken heard v s c same short none stands Time is =
     let (needs, few) = subst (λ rs. IsPlaceRefusal rs (form_in (latest_definition heard v.local)) (event_block heard (item (Data v))) Time) same is.2 in
     absurd (needs_none heard v s 0xFFFFFFFF needs)
-message_taken heard v s c same none stands Described is =
+message_taken heard v s c same short none stands Described is =
     let form = form_in (latest_definition heard v.local) in
-    let (needed, needs, never, none_says) = subst (λ rs. IsPlaceRefusal rs form (event_block heard (item (Data v))) Described) same is.2 in
-    absurd (none_says form.definition.local s.p (can_name heard v s)
-    (subst (λ f. SaysSame (latest_records heard) form.definition.local f s.p) (sym (needed_is heard v s needed needs)) (says_same heard v s)))
+    let (needed, needs, describes, cannot) = subst (λ rs. IsPlaceRefusal rs form (event_block heard (item (Data v))) Described) same is.2 in
+    never_describes heard v s needed needs describes
+message_taken heard v s c same short none stands TooLong is =
+    go (subst (λ rs. IsPlaceRefusal rs (form_in (latest_definition heard v.local)) (event_block heard (item (Data v))) TooLong) same is.2)
+  where
+    go : IsPlaceRefusal (latest_records heard) (form_in (latest_definition heard v.local)) (event_block heard (item (Data v))) TooLong → TooLong ≡ NoMemory
+    go (after, inl put, long) =
+        let now : data_length after ≡ data_length (Data v ∷ latest_records heard) = ap data_length (exact_put heard v s after put) in
+        absurd (omega (arith, long, now, short))
+    go (after, inr (needed, needs, part), long) = never_describes heard v s needed needs part.0
 
 -- a record of a file that was put so far
-record_taken : (heard : List (Event Global)) (r : Record Global) → AfterRecords heard r → (w : Writing) → Copies heard w → FitsNow w → (why : Refusal)
-    → IsCopyRefusal w heard (item r) why → IsWant why
-record_taken heard (Define d) s w copies fits why is =
-    let copied = records_copied s.h s.n s.fits s.records s.front s.small.2 w (subst (λ es. Copies es w) s.are copies) fits in
+record_taken : (heard : List (Event Global)) (r : Record Global) → AfterRecords heard r → (w : Writing) → Copies heard w → (why : Refusal)
+    → IsCopyRefusal w heard (item r) why → why ≡ NoMemory
+record_taken heard (Define d) s w copies why is =
+    let copied = records_copied s.h s.n s.fits s.records s.front s.small.2 w (subst (λ es. Copies es w) s.are copies) in
     let small : AreSmall (Define d ∷ latest_records heard) =
     subst (λ rs. AreSmall (Define d ∷ rs)) (sym (ap latest_records s.are ∙ latest_are s.h s.n s.records s.front)) s.small in
+    let back : definition_in (event_block heard (item (Define d))) ≡ d =
+    subst (λ es. definition_in (event_block es (item (Define d))) ≡ d) (sym s.are) (defined_there s.h s.n s.records s.front d s.small) in
+    let short : data_length (Define (definition_in (event_block heard (item (Define d)))) ∷ s.records) < 2 ^ 32 =
+    subst (λ (e : MessageDef Global). data_length (Define e ∷ s.records) < 2 ^ 32) (sym back) s.short in
     definition_taken (current_by s.h s.records) (event_block heard (item (Define d)))
-    (lone_definition _ d.local _ (event_block heard (item (Define d))) (latest_by heard d small)) why
+    (lone_definition _ d.local _ (event_block heard (item (Define d))) (latest_by heard d small)) short why
     (subst (λ o. IsDefinitionRefusal o (event_block heard (item (Define d))) why) copied.current is)
-record_taken heard (Data v) s w copies fits why is =
-    let copied = records_copied s.h s.n s.fits s.records s.front s.small.2 w (subst (λ es. Copies es w) s.are copies) fits in
+record_taken heard (Data v) s w copies why is =
+    let copied = records_copied s.h s.n s.fits s.records s.front s.small.2 w (subst (λ es. Copies es w) s.are copies) in
     let same : latest_records heard ≡ s.records = ap latest_records s.are ∙ latest_are s.h s.n s.records s.front in
     let small : AreSmall (Data v ∷ latest_records heard) = subst (λ rs. AreSmall (Data v ∷ rs)) (sym same) s.small in
     let said = message_heard heard v small in
-    message_taken heard v said (current_by s.h s.records) (sym same) (lone_definition _ v.local said.p (latest_definition heard v.local) said.by)
+    let short : data_length (Data v ∷ latest_records heard) < 2 ^ 32 = subst (λ rs. data_length (Data v ∷ rs) < 2 ^ 32) (sym same) s.short in
+    message_taken heard v said (current_by s.h s.records) (sym same) short (lone_definition _ v.local said.p (latest_definition heard v.local) said.by)
     (lone_message heard v small said) why
     (subst (λ o. IsMessageRefusal o (latest_definition heard v.local) (event_block heard (item (Data v))) why) copied.current is)
 
-event_taken : (heard : List (Event Global)) (x : Event Global) → Step heard x → (w : Writing) → Copies heard w → FitsNow w → (why : Refusal)
-    → IsCopyRefusal w heard x why → IsWant why
-event_taken heard (header h n) s w copies fits why is = header_taken heard h n s w copies why is
-event_taken heard (item r) s w copies fits why is = record_taken heard r s w copies fits why is
-event_taken heard file_end s w copies fits why is = absurd is
+event_taken : (heard : List (Event Global)) (x : Event Global) → Step heard x → (w : Writing) → Copies heard w → (why : Refusal)
+    → IsCopyRefusal w heard x why → why ≡ NoMemory
+event_taken heard (header h n) s w copies why is = header_taken heard h n s w copies why is
+event_taken heard (item r) s w copies why is = record_taken heard r s w copies why is
+event_taken heard file_end s w copies why is = absurd is
 
 pub copies_are_taken : CopiesAreTaken
-copies_are_taken files bytes are chain later heard x split w copies fits why is =
+copies_are_taken files bytes are chain later heard x split w copies why is =
     let within = chain.0.within in
     let steps = files_steps (reverse files) (good_chain files bytes are chain) (omega (arith, within, length-reverse files)) in
     let step = step_at later heard x (subst Steps (sym (chain_is files) ∙ split) steps) in
-    event_taken heard x step w copies (λ c there. fit_reversed c.records (fits c there)) why is
+    event_taken heard x step w copies why is

@@ -1,5 +1,6 @@
 -- What a message that describes changes of what is described, and what it leaves.
-use Rattle.std.proofs.Common.{◌≡◌, ◌∙◌, ℕ, inl, inr, Bool, true, false, cond, List, [], ◌∷◌, ◌++◌, length, reverse, refl, sym, ap, ap₂, subst, arith}
+use Rattle.std.proofs.Common.{◌≡◌, ◌∙◌, ℕ, inl, inr, Bool, true, false, cond, List, [], ◌∷◌, ◌++◌, length, reverse, refl, sym, ap, ap₂}
+use Rattle.std.proofs.Common.{subst, arith}
 use Rattle.std.proofs.Common.{eqb-true}
 use Rattle.std.proofs.lemmas.Bool.{and_parts, cases_Bool}
 use Rattle.std.proofs.lemmas.Bool.Decides.{nat_tests}
@@ -25,8 +26,8 @@ use Rattle.fit_record.specs.declared.message.Record.{Record}
 use Rattle.fit_record.specs.declared.message.Record.TheVariants.{Values as Data}
 use Rattle.fit_record.specs.declared.message.Values.{Values}
 use Rattle.fit_record.specs.Environment.{defined_at, describe, description, dev_code, dev_key_cmp, first_items, only, only_byte}
-use Rattle.fit_profile.specs.Described.{Naming, before_closing_zeros, is_printable, naming, naming_by}
-use Rattle.fit_profile.specs.Described.{naming_of, namings_at, printable_text, text_field, without_zeros}
+use Rattle.fit_profile.specs.Described.{Naming, before_closing_zeros, is_printable, naming, naming_by, naming_of, namings_at, printable_text, text_field}
+use Rattle.fit_profile.specs.Described.{without_zeros}
 use Rattle.fit_profile.specs.Looks.{first_field, known}
 use Rattle.fit_profile.specs.Times.{time}
 use Rattle.fit_writer.specs.Describing.{CanBeSaid, DevField, IsAdded, IsAlike, IsDescribedField, IsReadBack, description_reading, index_reading, text_fields}
@@ -105,7 +106,7 @@ code_put (e ∷ es) k v q = by (dev_key_cmp k e.0) refl (code_put es k v q)
 
 -- ---- what a message describes, by what a reader is told of it
 
-some_inside : {X Y : Type 0} (g : X → Y) (o : Option X) (y : Y) → option_map g o ≡ Some y → (x : X) × (o ≡ Some x) × (g x ≡ y)
+pub some_inside : {X Y : Type 0} (g : X → Y) (o : Option X) (y : Y) → option_map g o ≡ Some y → (x : X) × (o ≡ Some x) × (g x ≡ y)
 some_inside g None y is = absurd (cc is)
 some_inside g (Some x) y is = (x, refl, some_same (g x) y is)
   where
@@ -221,8 +222,8 @@ key_of d = record { index = d.index; number = d.number }
 module _ (s : List (Record Global)) (v : Values Global) (p : Defined Global) (there : defined_at (known s) v.local ≡ Some p)
   where
     code_after : (x : DevDef) → dev_code (known (Data v ∷ s)) x ≡ dev_code (describe (known s) (description p.definition v)) x
-    code_after x = ap (λ (o : Option (Defined Global)). dev_code
-        (describe (known s) (option_and_then (λ (q : Defined Global). description q.definition v) o)) x) there
+    code_after x = ap (λ (o : Option (Defined Global)). dev_code (describe (known s) (option_and_then
+        (λ (q : Defined Global). description q.definition v) o)) x) there
 
     naming_there : (index number : ℕ) → naming_of (Data v ∷ s) index number
         ≡ unwrap_or (option_and_then (λ (t : Description). if (t.key.index == index) && (t.key.number == number) then Some (naming p.definition v) else None)
@@ -236,9 +237,8 @@ module _ (s : List (Record Global)) (v : Values Global) (p : Defined Global) (th
     stays_by none x h = (
       code_after x.0 ∙ ap (λ (o : Option Description). dev_code (describe (known s) o) x.0) none ∙ h.0,
       naming_there x.0.index x.0.number
-          ∙ ap (λ (o : Option Description). unwrap_or
-          (option_and_then (λ (t : Description). if (t.key.index == x.0.index) && (t.key.number == x.0.number) then Some (naming p.definition v) else None) o)
-          (naming_of s x.0.index x.0.number)) none
+          ∙ ap (λ (o : Option Description). unwrap_or (option_and_then (λ (t : Description). if (t.key.index == x.0.index) &&
+          (t.key.number == x.0.number) then Some (naming p.definition v) else None) o) (naming_of s x.0.index x.0.number)) none
           ∙ h.1,
     )
 
@@ -256,9 +256,8 @@ module _ (s : List (Record Global)) (v : Values Global) (p : Defined Global) (th
             ≡ unwrap_or (cond ((d.index == index) && (d.number == number)) (Some n) None) (naming_of s index number)
         naming_now index number =
             naming_there index number
-            ∙ ap (λ (o : Option Description). unwrap_or
-            (option_and_then (λ (t : Description). if (t.key.index == index) && (t.key.number == number) then Some (naming p.definition v) else None) o)
-            (naming_of s index number)) is
+            ∙ ap (λ (o : Option Description). unwrap_or (option_and_then (λ (t : Description). if (t.key.index == index) &&
+            (t.key.number == number) then Some (naming p.definition v) else None) o) (naming_of s index number)) is
             ∙ ap (λ (m : Naming). unwrap_or (cond ((d.index == index) && (d.number == number)) (Some m) None) (naming_of s index number)) named
 
         pub said_now : (x : DevField) → d.index ≡ x.0.index → d.number ≡ x.0.number → (code, n) ≡ x.1 → IsDescribedField (Data v ∷ s) x

@@ -84,8 +84,8 @@ are_alike : (before xs : List DevField) → AllByRecursion (λ x. AllByRecursion
 are_alike before [] all = tt
 are_alike before (x ∷ xs) all = (
   (all_parts (IsAlike x) before (x ∷ xs) all.0).1.1,
-  are_alike (before ++ x ∷ []) xs (subst (λ (ys : List DevField). AllByRecursion (λ z. AllByRecursion (IsAlike z) ys) xs)
-      (sym (append_assoc before (x ∷ []) xs)) all.1),
+  are_alike (before ++ x ∷ []) xs (subst (λ (ys : List DevField). AllByRecursion (λ z. AllByRecursion (IsAlike z) ys) xs) (sym (append_assoc before
+      (x ∷ []) xs)) all.1),
 )
 
 can_each : (s : List (Record Global)) (xs : List DevField) → AreDescribable s xs → CanBeDescribedEach s xs
@@ -124,14 +124,18 @@ next_can s t all done rest x can is does =
 
 -- ---- one after another
 
-pub each_more : (s t u : List (Record Global)) (xs : List DevField) (x : DevField) → DescribesEach s t xs → DescribesField t u x → DescribesEach s u
-    (xs ++ x ∷ [])
+pub each_more : (s t u : List (Record Global)) (xs : List DevField) (x : DevField) → DescribesEach s t xs → DescribesField t u x
+    → DescribesEach s u (xs ++ x ∷ [])
 each_more s t u [] x same does = (u, subst (λ (rs : List (Record Global)). DescribesField rs u x) same does, refl)
 each_more s t u (y ∷ xs) x (mid, first, rest) does = (mid, first, each_more mid t u xs x rest does)
 
 pub some_none : (s : List (Record Global)) (xs : List DevField) → DescribesSome s s xs
 some_none s [] = refl
 some_none s (x ∷ xs) = inl refl
+
+pub each_some : (s t : List (Record Global)) (xs : List DevField) → DescribesEach s t xs → DescribesSome s t xs
+each_some s t [] same = same
+each_some s t (x ∷ xs) (mid, does, rest) = inr (inr (mid, does, each_some mid t xs rest))
 
 -- some of the next after those that were described
 pub some_more : (s t u : List (Record Global)) (xs ys : List DevField) (x : DevField) → DescribesEach s t xs → DescribesSome t u (x ∷ [])

@@ -1,5 +1,6 @@
 -- The bytes of a file with one record more.
-use Rattle.std.proofs.Common.{◌≡◌, ◌∙◌, ℕ, ◌+◌, ◌<◌, ◌^◌, List, [], ◌∷◌, ◌++◌, length, reverse, sym, ap, subst, arith, ◌≤◌, ◌⊎◌, inl, inr, Bool, true, false}
+use Rattle.std.proofs.Common.{◌≡◌, ◌∙◌, ℕ, ◌+◌, ◌<◌, ◌^◌, ◌≤◌, ◌⊎◌, List, [], ◌∷◌, ◌++◌, length, reverse}
+use Rattle.std.proofs.Common.{Bool, true, false, refl, sym, ap, subst, arith, inl, inr}
 use Rattle.std.specs.Prelude.{IsTrue}
 use Rattle.std.proofs.lemmas.Bool.{cases_lt}
 use Rattle.std.proofs.lemmas.List.{append-nil, length-append, reverse-append, reverse-reverse}
@@ -27,6 +28,13 @@ grown s r section bytes are is =
     (is ∙ ap (λ (e : Environment Global). record_bytes e r) (known_is s)
     ∙ sym (append-nil (record_bytes (learn_all empty_environment (reverse s)) r)))
     ∙ sym (records_bytes-append empty_environment (reverse s) (r ∷ [])) ∙ ap (records_bytes empty_environment) (sym (last s r))
+
+-- it has no fewer of them
+pub no_shorter : (s : List (Record Global)) (r : Record Global) → data_length s ≤ data_length (r ∷ s)
+no_shorter s r =
+    let first = records_bytes empty_environment (reverse s) in
+    let more = record_bytes (known s) r in
+    omega (arith, ap length (grown s r first more refl refl), length-append first more)
 
 pub grown_length : (s : List (Record Global)) (r : Record Global) (section bytes : List ℕ) → AreData section s → bytes ≡ record_bytes (known s) r
     → data_length (r ∷ s) ≡ length section + length bytes

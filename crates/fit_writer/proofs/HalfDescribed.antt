@@ -79,8 +79,8 @@ pub err_from : (old mid new : OpenFile) (P Q : Change) (r : Result (Unit {0}) Re
 err_from old mid new P Q (Ok x) same to h = tt
 err_from old mid new P Q (Err why) same to h = half_from old mid new P Q why same to h
 
-pub err_added : (old mid new : OpenFile) (local : ℕ) (r s : Reading) (P : Change) (answer : Result (Unit {0}) Refusal) → current_of mid ≡ current_with
-    old mid.stream
+pub err_added : (old mid new : OpenFile) (local : ℕ) (r s : Reading) (P : Change) (answer : Result (Unit {0}) Refusal)
+    → current_of mid ≡ current_with old mid.stream
     → r ≡ s → (s.global ≡ 206) ⊎ (s.global ≡ 207) → P old.stream mid.stream
     → ((after : List (Record Global)) → IsAdded mid.stream after local s → P old.stream after) → IfErr answer (IsUnadded mid new local r)
     → IfErr answer (IsHalfDescribed old new P)

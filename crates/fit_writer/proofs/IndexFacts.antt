@@ -1,6 +1,6 @@
 -- The developer data indices that messages say, one record after another.
-use Rattle.std.proofs.Common.{◌≡◌, ◌∙◌, ℕ, zero, suc, ◌+◌, ◌*◌, ◌<◌, ◌≤◌, inl, inr, Bool, true, false, cond}
-use Rattle.std.proofs.Common.{List, [], ◌∷◌, ◌++◌, length, map, take, drop, get_or, set, refl, sym, ap, subst, arith, add-one}
+use Rattle.std.proofs.Common.{◌≡◌, ◌∙◌, ℕ, zero, suc, ◌+◌, ◌*◌, ◌<◌, ◌≤◌, inl, inr, Bool, true, false, cond, List, [], ◌∷◌, ◌++◌, length, map, take, drop}
+use Rattle.std.proofs.Common.{get_or, set, refl, sym, ap, subst, arith, add-one}
 use Rattle.std.specs.Global.{Global}
 use Rattle.std.specs.List.{Contains}
 use Rattle.std.specs.Prelude.{◌==◌, ◌⊎◌, if◌then◌else◌, Option, Some, None, option_and_then, option_map, replicate, unwrap_or, zip}
@@ -163,8 +163,8 @@ pub third_walked : (block : List ℕ) (fields : List FieldDef) (slots : List Slo
     ≡ cond ((get_or fields n d).number == 3) (slot_byte block (get_or slots n e)) (third_byte block (drop (n + 1) fields) (drop (n + 1) slots))
 third_walked block fields slots n d e long less = rw (add-one n) (third_walk block fields slots n d e long less)
 
-pub third_over : (block : List ℕ) (fields : List FieldDef) (slots : List Slot) (n : ℕ) → length fields ≤ n → third_byte block (drop n fields)
-    (drop n slots) ≡ None
+pub third_over : (block : List ℕ) (fields : List FieldDef) (slots : List Slot) (n : ℕ) → length fields ≤ n
+    → third_byte block (drop n fields) (drop n slots) ≡ None
 third_over block [] slots zero past = refl
 third_over block [] slots (suc n) past = refl
 third_over block (f ∷ fields) slots zero past = absurd (omega (arith, past))

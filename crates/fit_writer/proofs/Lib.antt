@@ -8,6 +8,7 @@ mod CopyRefusals
 mod DescribeCalls
 mod DescribedAfter
 mod DescribedNow
+mod DescribedPuts
 mod EachDescribed
 mod Ends
 mod Grown

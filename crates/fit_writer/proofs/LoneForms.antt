@@ -4,6 +4,7 @@ use Rattle.std.specs.Global.{Global}
 use Rattle.std.specs.List.{list_all}
 use Rattle.std.specs.Prelude.{Option, Some, None, zip, ◌&&◌, nat_le}
 use Rattle.std.proofs.lemmas.Bool.Decides.{nat_tests}
+use Rattle.fit_base.specs.Numbers.{IsBytes}
 use Rattle.fit_base.specs.declared.number.Order.{Order}
 use Rattle.fit_record.specs.declared.definition.DevDef.{DevDef}
 use Rattle.fit_record.specs.declared.definition.FieldDef.{FieldDef}
@@ -12,9 +13,10 @@ use Rattle.fit_record.specs.declared.environment.Defined.{Defined}
 use Rattle.fit_record.specs.declared.message.Record.{Record}
 use Rattle.fit_record.specs.declared.message.Record.TheVariants.{Define, Values as Data}
 use Rattle.fit_record.specs.Environment.{Environment, defined_at, defined_by, dev_defs}
-use Rattle.fit_record.specs.Records.{DataHeaderFits, DefinitionFits, IsRecord, dev_layout, layout}
+use Rattle.fit_record.specs.Records.{DataHeaderFits, DefinitionFits, Fits, IsRecord, dev_layout, layout}
 use Rattle.fit_profile.specs.Looks.{known}
 use Rattle.fit_profile.specs.Described.{Naming}
+use Rattle.fit_from_messages.proofs.MessageFacts.{lone_record}
 use Rattle.fit_from_messages.specs.Alone.{lone_layout, message_with}
 use Rattle.fit_from_messages.specs.Parts.{entries_of, entry_stands, number_read, slot_stands}
 use Rattle.fit_from_messages.specs.Slots.{SlotsFit}
@@ -50,6 +52,14 @@ pub spelled_there : (s : List (Record Global)) (local : ℕ) (d : LoneDefinition
 spelled_there s local d block order offset bytes p lone same orders spelled =
     spelled (known s) p same.defined orders same.fields (fits_there s local d p lone same)
 
+-- the message fits there
+pub message_there : (s : List (Record Global)) (local : ℕ) (d : LoneDefinition) (block : List ℕ) (offset : Option ℕ) → IsBytes block → IsLone d
+    → ((p : Defined Global) × SaysSame s local (form_of d) p) → DataHeaderFits local offset → list_all (slot_stands block) d.slots ≡ true
+    → Fits (known s) (Data (values_by (form_of d) block local offset))
+message_there s local d block offset are lone (p, same) header stand =
+    subst (λ (n : ℕ). Fits (known s) (Data (message_with block d.slots n local offset))) (ap length same.fields)
+    (lone_record (known s) p block d.slots local offset _ are same.defined header (fits_there s local d p lone same) stand refl).0
+
 -- two that are there are one
 pub same_order : (o : Option (Defined Global)) (p q : Defined Global) → o ≡ Some p → o ≡ Some q → p.definition.order ≡ q.definition.order
 same_order o p q first second = go (sym first ∙ second)
@@ -79,6 +89,13 @@ pub spelled_own : (s : List (Record Global)) (local : ℕ) (d : LoneDefinition) 
 spelled_own s local d block offset bytes lone same few spelled =
     spelled_there (Define (with_local d.definition local) ∷ s) local d block d.definition.order offset bytes
     (defined_by (known s) (with_local d.definition local)) lone (says_own s (form_of d) local few same) refl spelled
+
+pub message_own : (s : List (Record Global)) (local : ℕ) (d : LoneDefinition) (block : List ℕ) (offset : Option ℕ) → IsBytes block → IsLone d
+    → WouldSaySame s (form_of d) → DataHeaderFits local offset → list_all (slot_stands block) d.slots ≡ true
+    → Fits (known (Define (with_local d.definition local) ∷ s)) (Data (values_by (form_of d) block local offset))
+message_own s local d block offset are lone same header stand =
+    message_there (Define (with_local d.definition local) ∷ s) local d block offset are lone
+    (defined_by (known s) (with_local d.definition local), says_own s (form_of d) local (local_few local offset header) same) header stand
 
 -- ---- with a timestamp
 

@@ -1,6 +1,6 @@
 -- Messages of fields alone, and what a reader is told of them.
-use Rattle.std.proofs.Common.{◌≡◌, ◌∙◌, ℕ, zero, suc, ◌+◌, ◌*◌, ◌<◌, ◌≤◌, Bool, true, false, cond}
-use Rattle.std.proofs.Common.{List, [], ◌∷◌, ◌++◌, length, map, take, drop, refl, sym, ap, ap₂, arith}
+use Rattle.std.proofs.Common.{◌≡◌, ◌∙◌, ℕ, zero, suc, ◌+◌, ◌*◌, ◌<◌, ◌≤◌, Bool, true, false, cond, List, [], ◌∷◌, ◌++◌, length, map, take, drop, refl, sym}
+use Rattle.std.proofs.Common.{ap, ap₂, arith}
 use Rattle.std.specs.Global.{Global}
 use Rattle.std.specs.List.{AllByRecursion, list_all}
 use Rattle.std.specs.Prelude.{◌==◌, ◌&&◌, nat_le, Some, None, option_and_then, zip}
@@ -18,7 +18,7 @@ use Rattle.fit_profile.specs.Times.{time_in_field}
 use Rattle.fit_from_messages.specs.Parts.{items_read, slot_stands}
 use Rattle.fit_from_messages.specs.Slots.{SlotsFit}
 use Rattle.fit_from_messages.specs.declared.slot.Slot.{Slot}
-use Rattle.fit_writer.specs.inner.Plain.{IsPlainMessage, fields_made}
+use Rattle.fit_writer.specs.inner.Plain.{IsMade, fields_made}
 
 -- ---- items in a block that grows
 
@@ -80,11 +80,11 @@ zip_more [] (t ∷ slots) f s read long = absurd (omega (arith, long))
 zip_more (g ∷ fields) [] f s read long = absurd (omega (arith, long))
 zip_more (g ∷ fields) (t ∷ slots) f s read long = ap (λ xs. (g, read t) ∷ xs) (zip_more fields slots f s read (omega (arith, long)))
 
-zip_same : (fields : List FieldDef) (slots : List Slot) (a b : Slot → Items Global) → map a slots ≡ map b slots → zip fields (map a slots) ≡ zip
-    fields (map b slots)
+zip_same : (fields : List FieldDef) (slots : List Slot) (a b : Slot → Items Global) → map a slots ≡ map b slots
+    → zip fields (map a slots) ≡ zip fields (map b slots)
 zip_same fields slots a b same = ap (zip fields) same
 
-pub made_more : (fields : List FieldDef) (slots : List Slot) (block bytes : List ℕ) (f : FieldDef) → IsPlainMessage fields slots block
+pub made_more : (fields : List FieldDef) (slots : List Slot) (block bytes : List ℕ) (f : FieldDef) → IsMade fields slots block
     → fields_made (fields ++ f ∷ []) (slots ++ last_slot block bytes ∷ []) (block ++ bytes)
     ≡ fields_made fields slots block ++ (f, record { width = 1; bits = bytes }) ∷ []
 made_more fields slots block bytes f plain =
@@ -117,9 +117,9 @@ pub all_last : {X : Type 0} (P : X → Type 0) (xs : List X) (x : X) → AllByRe
 all_last P [] x all last = (last, tt)
 all_last P (y ∷ xs) x all last = (all.0, all_last P xs x all.1 last)
 
-pub plain_more : (fields : List FieldDef) (slots : List Slot) (block bytes : List ℕ) (f : FieldDef) → IsPlainMessage fields slots block → f.size ≡ length bytes
+pub plain_more : (fields : List FieldDef) (slots : List Slot) (block bytes : List ℕ) (f : FieldDef) → IsMade fields slots block → f.size ≡ length bytes
     → f.number < 253 → item_width f.code (length bytes) ≡ 1 → length bytes ≤ 255
-    → IsPlainMessage (fields ++ f ∷ []) (slots ++ last_slot block bytes ∷ []) (block ++ bytes)
+    → IsMade (fields ++ f ∷ []) (slots ++ last_slot block bytes ∷ []) (block ++ bytes)
 plain_more fields slots block bytes f plain size number width short = record {
   stand = all_stand block bytes slots (last_slot block bytes) plain.stand
       (is_within (length block + 1 * length bytes) (length (block ++ bytes)) (omega (arith, length-append block bytes)));
@@ -130,10 +130,10 @@ plain_more fields slots block bytes f plain size number width short = record {
   short = omega (arith, plain.short, short, length-append block bytes, length-append fields (f ∷ []));
 }
 
-pub none_made : IsPlainMessage [] [] []
+pub none_made : IsMade [] [] []
 none_made = record { stand = refl; fit = tt; bytes = tt; untimed = tt; short = omega arith }
 
-pub made_length : (fields : List FieldDef) (slots : List Slot) (block : List ℕ) → IsPlainMessage fields slots block
+pub made_length : (fields : List FieldDef) (slots : List Slot) (block : List ℕ) → IsMade fields slots block
     → length (fields_made fields slots block) ≡ length fields
 made_length fields slots block plain = go fields slots (slots_long fields slots plain.fit)
   where
@@ -170,5 +170,5 @@ made_fields [] slots block long = refl
 made_fields (f ∷ fields) [] block long = absurd (omega (arith, long))
 made_fields (f ∷ fields) (s ∷ slots) block long = ap (λ fs. f ∷ fs) (made_fields fields slots block (omega (arith, long)))
 
-pub plain_long : (fields : List FieldDef) (slots : List Slot) (block : List ℕ) → IsPlainMessage fields slots block → length slots ≡ length fields
+pub plain_long : (fields : List FieldDef) (slots : List Slot) (block : List ℕ) → IsMade fields slots block → length slots ≡ length fields
 plain_long fields slots block plain = slots_long fields slots plain.fit

@@ -9,19 +9,23 @@ use Rattle.fit_record.specs.declared.message.Record.{Record}
 use Rattle.fit_record.specs.declared.message.Record.TheVariants.{Define, Values as Data}
 use Rattle.fit_record.specs.Environment.{defined_at}
 use Rattle.fit_record.specs.Faults.{or_else}
-use Rattle.fit_record.specs.Records.{DataHeaderFits}
+use Rattle.fit_record.specs.Records.{DataHeaderFits, Fits}
 use Rattle.fit_profile.specs.Looks.{known}
 use Rattle.fit_profile.specs.Times.{header_time, previous_time, valid_time}
 use Rattle.fit_from_messages.specs.Parts.{number_read, offset_in}
 use Rattle.fit_from_messages.specs.declared.fault.BlockReason.{BlockReason}
+use Rattle.fit_writer.proofs.DescribedPuts.{same_time}
 use Rattle.fit_writer.proofs.ReadThere.{read_there, same_after, says_own}
 use Rattle.fit_writer.specs.Reading.{Form, Reading, dated, header_time_in}
 use Rattle.fit_writer.specs.Reading.{fields_time, said_reading, values_by}
-use Rattle.fit_writer.specs.Written.{CanName, IsNeeded, IsPlaced, IsPut, KeepsOffset, NeedsTimestamp, SaysSame, WouldSaySame, with_local}
+use Rattle.fit_writer.specs.Written.{CanName, DefinesPart, DescribesBefore, DescribesPart, IsNeeded, IsPlaced, IsPut, KeepsOffset, NeedsDescriptions}
+use Rattle.fit_writer.specs.Written.{NeedsTimestamp, SaysSame}
+use Rattle.fit_writer.specs.Written.{WouldSaySame, with_local}
 use Rattle.fit_writer.specs.declared.refusal.Refusal.{Refusal}
 use Rattle.fit_writer.specs.declared.refusal.Refusal.TheVariants.{NoFile, Block, Message, TooManyFiles, Full, Time, Described, TooLong, NoMemory}
 use Rattle.fit_writer.specs.inner.OpenFiles.{IsUnput}
-use Rattle.fit_writer.specs.inner.Puts.{IsChosen, IsKeptOffset, IsRefusedPut, IsSeated, IsTold, IsUnchosen, IsUnplaced, LosesTime, limit_of, told_after}
+use Rattle.fit_writer.specs.inner.Puts.{IsChosen, IsKeptOffset, IsRefusedPut, IsSeated, IsTold, IsToldAfter, IsUnchosen, IsUnneeded, IsUnplaced, LosesTime}
+use Rattle.fit_writer.specs.inner.Puts.{limit_of, told_after}
 
 -- ---- record headers
 
@@ -33,11 +37,12 @@ header_fits None local limit is less small = omega (arith, is, less)
 
 pub told_known : (s : List (Record Global)) (local : ℕ) (f : Form) (block : List ℕ) (offset : Option ℕ) → ((p : Defined Global) × SaysSame s local f p)
     → ((p : Defined Global) → f.definition.local < limit_of offset → SaysSame s f.definition.local f p → local ≡ f.definition.local)
-    → IsTold s f block offset (Data (values_by f block local offset) ∷ s)
-told_known s local f block offset same own = record {
+    → Fits (known s) (Data (values_by f block local offset)) → IsTold s f block offset (Data (values_by f block local offset) ∷ s)
+told_known s local f block offset same own fits = record {
   defined = None;
   message = values_by f block local offset;
   records = refl;
+  fits = fits;
   told = read_there s local f block offset same.0 same.1;
   offset_is = refl;
   seated = record {
@@ -53,11 +58,13 @@ pub told_both : (s : List (Record Global)) (local : ℕ) (f : Form) (block : Lis
     → ((k : ℕ) (p : Defined Global) → k < limit_of offset → SaysSame s k f p → ⊥)
     → (f.definition.local < limit_of offset → defined_at (known s) f.definition.local ≡ None → local ≡ f.definition.local)
     → ((k : ℕ) → k < limit_of offset → defined_at (known s) k ≡ None → defined_at (known s) local ≡ None)
+    → Fits (known (Define (with_local f.definition local) ∷ s)) (Data (values_by f block local offset))
     → IsTold s f block offset (Data (values_by f block local offset) ∷ Define (with_local f.definition local) ∷ s)
-told_both s local f block offset few same none own free = record {
+told_both s local f block offset few same none own free fits = record {
   defined = Some (with_local f.definition local);
   message = values_by f block local offset;
   records = refl;
+  fits = fits;
   told = read_there (Define (with_local f.definition local) ∷ s) local f block offset _
       (says_own s f local few same)
       ∙ ap Some (same_after s (with_local f.definition local) f block offset);
@@ -191,9 +198,9 @@ no_offset : (s : List (Record Global)) (block : List ℕ) (offset : Option ℕ) 
 no_offset s block (Some o) kept lost = absurd (lost (keeps s block (Some o) kept refl))
 no_offset s block None kept lost = refl
 
-placed_as : (s : List (Record Global)) (g : Form) (block : List ℕ) (offset : Option ℕ) (defined : Option (MessageDef Global)) (local : ℕ)
-    → IsKeptOffset s block offset → IsSeated s g (limit_of offset) defined local → IsPlaced s g (CanName s block) defined local
-placed_as s g block offset defined local kept seated = record {
+placed_as : (s t : List (Record Global)) (g : Form) (block : List ℕ) (offset : Option ℕ) (defined : Option (MessageDef Global)) (local : ℕ)
+    → IsKeptOffset s block offset → IsSeated t g (limit_of offset) defined local → IsPlaced t g (CanName s block) defined local
+placed_as s t g block offset defined local kept seated = record {
   own = λ p names same. seated.own p (within s block offset g.definition.local kept names.0 names.1) same;
   fresh = λ d is k p names same. seated.fresh d is k p (within s block offset k kept names.0 names.1) same;
   defines = λ d is. seated.defines d is;
@@ -201,35 +208,60 @@ placed_as s g block offset defined local kept seated = record {
   free = λ d is k names none. seated.free d is k (within s block offset k kept names.0 names.1) none;
 }
 
+-- ---- descriptions before it
+
+needs_as : (s : List (Record Global)) (g : Form) (block : List ℕ) (offset : Option ℕ) → IsKeptOffset s block offset
+    → NeedsDescriptions s g (λ k. k < limit_of offset) → NeedsDescriptions s g (CanName s block)
+needs_as s g block offset kept needs = (needs.0, λ local p names same. needs.1 local p (within s block offset local kept names.0 names.1) same)
+
+before_as : (s t : List (Record Global)) (g : Form) (block : List ℕ) (offset : Option ℕ) → IsKeptOffset s block offset
+    → DescribesBefore s t g (λ k. k < limit_of offset) → DescribesBefore s t g (CanName s block)
+before_as s t g block offset kept (inl same) = inl same
+before_as s t g block offset kept (inr (needs, form)) = inr (needs_as s g block offset kept needs, form)
+
+pub part_as : (s t : List (Record Global)) (g : Form) (block : List ℕ) (offset : Option ℕ) → IsKeptOffset s block offset
+    → DescribesPart s t g (λ k. k < limit_of offset) → DescribesPart s t g (CanName s block)
+part_as s t g block offset kept (needs, some) = (needs_as s g block offset kept needs, some)
+
+pub defines_as : (s t : List (Record Global)) (g : Form) (block : List ℕ) (offset : Option ℕ) → IsKeptOffset s block offset
+    → DefinesPart s t g (λ k. k < limit_of offset) → DefinesPart s t g (CanName s block)
+defines_as s t g block offset kept (inl puts) = inl puts
+defines_as s t g block offset kept (inr (described, part, more)) = inr (described, part_as s described g block offset kept part, more)
+
+-- messages that describe leave the time as it was
+told_then : (s t : List (Record Global)) (g : Form) (block : List ℕ) (offset : Option ℕ) → DescribesBefore s t g (λ k. k < limit_of offset)
+    → told_after t g block offset ≡ told_after s g block offset
+told_then s t g block offset describes =
+    ap (λ (o : Option ℕ). at_time (said_reading g block) (or_else (fields_time g block) (header_time o offset)))
+    (same_time s t g (λ k. k < limit_of offset) describes)
+
 pub put_as : (s : List (Record Global)) (f g : Form) (block : List ℕ) (offset : Option ℕ) (after : List (Record Global))
-    → IsChosen f block (is_some offset) g → IsKeptOffset s block offset → IsTold s g block offset after → IsPut s after f block
-put_as s f g block offset after chosen kept told = record {
+    → IsChosen f block (is_some offset) g → IsKeptOffset s block offset → IsToldAfter s g block offset after → IsPut s after f block
+put_as s f g block offset after chosen kept is = record {
   form = g;
   needed = is_needed s f g block offset kept chosen;
-  defined = told.defined;
-  message = told.message;
-  records = told.records;
-  told = told.told ∙ ap Some (same_told s f g block offset chosen kept);
-  kept = λ k. told.offset_is ∙ offset_kept s block offset kept k;
-  without = λ lost. told.offset_is ∙ no_offset s block offset kept lost;
-  placed = placed_as s g block offset told.defined told.message.local kept told.seated;
+  described = is.described;
+  describes = before_as s is.described g block offset kept is.describes;
+  defined = is.told.defined;
+  message = is.told.message;
+  records = is.told.records;
+  fits = is.told.fits;
+  told = is.told.told ∙ ap Some (told_then s is.described g block offset is.describes ∙ same_told s f g block offset chosen kept);
+  kept = λ k. is.told.offset_is ∙ offset_kept s block offset kept k;
+  without = λ lost. is.told.offset_is ∙ no_offset s block offset kept lost;
+  placed = placed_as s is.described g block offset is.told.defined is.told.message.local kept is.told.seated;
 }
 
 -- of the place
 pub refused_place : (s : List (Record Global)) (f g : Form) (block : List ℕ) (offset : Option ℕ) (first : Option BlockReason) (why : Refusal)
     → first ≡ None → IsKeptOffset s block offset → IsChosen f block (is_some offset) g
-    → IsUnplaced s g block offset why → IsRefusedPut s f block first why
-refused_place s f g block offset first Described none kept chosen (other, never) = (
-  none,
-  (
-    g,
-    is_needed s f g block offset kept chosen,
-    other,
-    λ local p names same. never local p (within s block offset local kept names.0 names.1) same,
-  ),
-)
-refused_place s f g block offset first TooLong none kept chosen (after, told, long) =
-    (none, (after, put_as s f g block offset after chosen kept told, long))
+    → IsUnneeded s g block offset why → IsRefusedPut s f block first why
+refused_place s f g block offset first Described none kept chosen (needs, never) =
+    (none, (g, is_needed s f g block offset kept chosen, needs_as s g block offset kept needs, never))
+refused_place s f g block offset first TooLong none kept chosen (after, inl told, long) =
+    (none, (after, inl (put_as s f g block offset after chosen kept told), long))
+refused_place s f g block offset first TooLong none kept chosen (after, inr part, long) =
+    (none, (after, inr (g, is_needed s f g block offset kept chosen, part_as s after g block offset kept part), long))
 refused_place s f g block offset first NoMemory none kept chosen h = tt
 refused_place s f g block offset first NoFile none kept chosen h = absurd h
 refused_place s f g block offset first (Block reason) none kept chosen h = absurd h

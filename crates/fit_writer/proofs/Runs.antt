@@ -12,10 +12,9 @@ use Rattle.fit_writer.proofs.Calls.{keeps_all, puts_message, refusal_at}
 use Rattle.fit_writer.specs.Reading.{Form, form_in}
 use Rattle.fit_writer.specs.Runs.{IsNextRefused, PutsEach, PutsMessages, PutsRun, StopsRun}
 use Rattle.fit_writer.specs.Written.{Current, IsPut, Writing}
-use Rattle.fit_writer.proofs.ReadAmounts.{into_read, told_more}
-use Rattle.fit_writer.specs.Amounts.{amounts_by, has_amounts}
+use Rattle.fit_writer.proofs.ReadAmounts.{told_more}
+use Rattle.fit_writer.specs.Amounts.{Amounts, amounts_by, has_amounts, latest_amounts}
 use Rattle.fit_writer.specs.declared.done.Run.{Run}
-use Rattle.fit_writer.specs.inner.Told.{latest_amounts}
 use Rattle.fit_writer.specs.declared.file.OpenFile.{OpenFile}
 use Rattle.fit_writer.specs.declared.refusal.Refusal.{Refusal}
 use Rattle.fit_writer.specs.declared.refusal.RunRefusal.{RunRefusal}
@@ -34,10 +33,19 @@ put_after old between new f block same (after, put, now) = (
   now ∙ ap (λ (c : Current). let d : Current = record { header = c.header; records = after } in d) same,
 )
 
-each_more : (old between new : OpenFile) (f : Form) (blocks : List (List ℕ)) (block : List ℕ) → PutsEachInto old between f blocks → IsBlock block
-    → IsPutInto between new f block → PutsEachInto old new f (blocks ++ block ∷ [])
-each_more old between new f [] block same is put = (is, new, put_after old between new f block same put, refl)
-each_more old between new f (b ∷ blocks) block (first, mid, one, rest) is put = (first, mid, one, each_more mid between new f blocks block rest is put)
+each_more : (old between new : OpenFile) (f : Form) (blocks : List (List ℕ)) (read : List Amounts) (block : List ℕ) → PutsEachInto old between f blocks read
+    → IsBlock block → IsPutInto between new f block → PutsEachInto old new f (blocks ++ block ∷ []) (read ++ latest_amounts new.stream ∷ [])
+each_more old between new f [] [] block same is put = (is, new, put_after old between new f block same put, refl, refl)
+each_more old between new f (b ∷ blocks) (a ∷ read) block (first, mid, one, told, rest) is put =
+    (first, mid, one, told, each_more mid between new f blocks read block rest is put)
+each_more old between new f [] (a ∷ read) block none is put = absurd none
+each_more old between new f (b ∷ blocks) [] block none is put = absurd none
+
+each_long : (old new : OpenFile) (f : Form) (blocks : List (List ℕ)) (read : List Amounts) → PutsEachInto old new f blocks read → length read ≡ length blocks
+each_long old new f [] [] same = refl
+each_long old new f (b ∷ blocks) (a ∷ read) (first, mid, one, told, rest) = omega (arith, each_long mid new f blocks read rest)
+each_long old new f [] (a ∷ read) none = absurd none
+each_long old new f (b ∷ blocks) [] none = absurd none
 
 pub run_more : (old between new : OpenFile) (f : Form) (has : Bool) (bytes rest left block : List ℕ) (count n : ℕ) (is_told : Bool)
     → HasRunInto old between f has bytes count n rest → IsBlock block → rest ≡ block ++ left → IsPutInto between new f block
@@ -48,18 +56,21 @@ run_more old between new f has bytes rest left block count n is_told h is begins
   are_joined = h.are_joined ∙ ap (λ x. joined_blocks h.blocks ++ x) begins ∙ sym (joined_more h.blocks block left);
   counted = omega (arith, h.counted, length-append h.blocks (block ∷ []));
   few = omega (arith, h.few, ap length begins, length-append block left, is.front);
-  put = each_more old between new f h.blocks block h.put is put;
-  told = told_more old.stream between.stream new.stream has h.blocks block n count (latest_amounts new.stream) is_told h.counted h.told
-      (into_read between new f block put) iff;
+  read = h.read ++ latest_amounts new.stream ∷ [];
+  put = each_more old between new f h.blocks h.read block h.put is put;
+  told = told_more has h.blocks h.read block n count (latest_amounts new.stream) is_told
+      (h.counted ∙ sym (each_long old between f h.blocks h.read h.put)) h.told iff;
 }
 
 -- ---- of all that was written
 
-each_written : (files : List (FitFile Global)) (old new : OpenFile) (f : Form) (blocks : List (List ℕ)) → PutsEachInto old new f blocks
-    → PutsEach (writing_of files true old) (writing_of files true new) f blocks
-each_written files old new f [] same = ap (λ (c : Current). let w : Writing = record { files = files; current = Some c } in w) same
-each_written files old new f (block ∷ blocks) (is, between, put, rest) =
-    (is, writing_of files true between, puts_message files old between f f block refl put, each_written files between new f blocks rest)
+each_written : (files : List (FitFile Global)) (old new : OpenFile) (f : Form) (blocks : List (List ℕ)) (read : List Amounts)
+    → PutsEachInto old new f blocks read → PutsEach (writing_of files true old) (writing_of files true new) f blocks read
+each_written files old new f [] [] same = ap (λ (c : Current). let w : Writing = record { files = files; current = Some c } in w) same
+each_written files old new f (block ∷ blocks) (a ∷ read) (is, between, put, told, rest) =
+    (is, writing_of files true between, puts_message files old between f f block refl put, told, each_written files between new f blocks read rest)
+each_written files old new f [] (a ∷ read) none = absurd none
+each_written files old new f (block ∷ blocks) [] none = absurd none
 
 run_written : (files : List (FitFile Global)) (old new : OpenFile) (f : Form) (has : Bool) (bytes : List ℕ) (count n place : ℕ) (rest : List ℕ)
     → length bytes ≡ place + length rest → HasRunInto old new f has bytes count n rest
@@ -69,7 +80,8 @@ run_written files old new f has bytes count n place rest at h = record {
   are_joined = h.are_joined;
   counted = h.counted;
   at = omega (arith, at, ap length h.are_joined, length-append (joined_blocks h.blocks) rest);
-  put = each_written files old new f h.blocks h.put;
+  read = h.read;
+  put = each_written files old new f h.blocks h.read h.put;
   told = h.told;
 }
 

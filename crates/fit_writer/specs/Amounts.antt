@@ -1,6 +1,5 @@
 -- Speed, distance, cycles and power: what a reader is told of them, and what a message's block says (`docs/BLOCKS.md`).
-use Rattle.std.specs.Prelude.{◌≡◌, ◌&&◌, ◌↔◌, Bool, nat_le, if◌then◌else◌, ℕ, zero, suc, List}
-use Rattle.std.specs.Prelude.{[], ◌∷◌, ◌++◌, length, map, Option, Some, None, IsSomeAnd, IsTrue}
+use Rattle.std.specs.Prelude.{◌≡◌, ◌&&◌, ◌↔◌, Bool, nat_le, if◌then◌else◌, ℕ, zero, suc, List, [], ◌∷◌, length, Option, Some, None, IsSomeAnd, IsTrue}
 use Rattle.std.specs.Global.{Global}
 use Rattle.fit_record.specs.declared.message.Record.{Record}
 use Rattle.fit_record.specs.declared.message.Record.TheVariants.{Define, Values as Data}
@@ -25,11 +24,15 @@ no_amounts = record { speed = None; distance = None; cycles = None; power = None
 abbrev pub amounts_in : Told → Amounts
 amounts_in t = record { speed = t.speed; distance = t.distance; cycles = t.total_cycles; power = t.accumulated_power }
 
--- of all data messages of a file, in their order; its records stand latest first
-abbrev pub amounts_read : List (Record Global) → List Amounts
-amounts_read [] = []
-amounts_read (Define d ∷ before) = amounts_read before
-amounts_read (Data v ∷ before) = amounts_read before ++ amounts_in (told before v) ∷ []
+-- of the latest message of a file; none where there is no message
+abbrev pub latest_amounts : List (Record Global) → Amounts
+latest_amounts [] = no_amounts
+latest_amounts (Define d ∷ before) = latest_amounts before
+latest_amounts (Data v ∷ before) = amounts_in (told before v)
+
+-- A reader is told these of the message that was put last.
+abbrev pub AreLatest : Writing → Amounts → Type 0
+AreLatest w a = IsSomeAnd w.current (λ f. latest_amounts f.records ≡ a)
 
 -- ---- what blocks say
 
@@ -56,11 +59,9 @@ amounts_said definition block = amounts_by (has_amounts definition) block
 
 -- ---- whether they are read as they are said
 
--- A reader is told of one message more, and this says whether it is told the amounts that the block says.
-abbrev pub IsToldAmounts : Writing → Writing → List ℕ → List ℕ → Bool → Type 0
-IsToldAmounts old new definition block accumulated =
-    IsSomeAnd old.current (λ f. IsSomeAnd new.current (λ g. (read : Amounts) × (amounts_read g.records ≡ amounts_read f.records ++ read ∷ [])
-    × (IsTrue accumulated ↔ (read ≡ amounts_said definition block))))
+-- This says whether a reader is told of the message that was put last the amounts that its block says.
+abbrev pub IsToldAmounts : Writing → List ℕ → List ℕ → Bool → Type 0
+IsToldAmounts w definition block accumulated = (read : Amounts) × AreLatest w read × (IsTrue accumulated ↔ (read ≡ amounts_said definition block))
 
 -- That many first ones of two lists are the same, and the next ones aren't.
 abbrev pub SameFirst : List Amounts → List Amounts → ℕ → Type 0
@@ -68,9 +69,3 @@ SameFirst [] [] zero = Unit {0}
 SameFirst (a ∷ read) (b ∷ said) zero = a ≡ b → ⊥
 SameFirst (a ∷ read) (b ∷ said) (suc n) = (a ≡ b) × SameFirst read said n
 SameFirst _ _ _ = ⊥
-
--- A reader is told of the messages of these blocks after others, and of that many first ones the amounts that their blocks say.
-abbrev pub AreToldAmounts : List (Record Global) → List (Record Global) → Bool → List (List ℕ) → ℕ → Type 0
-AreToldAmounts before after has blocks accumulated =
-    (read : List Amounts) × (length read ≡ length blocks) × (amounts_read after ≡ amounts_read before ++ read) × SameFirst read
-    (map (amounts_by has) blocks) accumulated

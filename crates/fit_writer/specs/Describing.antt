@@ -1,5 +1,6 @@
 -- How developer fields are described: by messages 206, and messages 207 before them (FIT protocol, "Developer Data").
-use Rattle.std.specs.Prelude.{◌≡◌, ◌⊎◌, ◌==◌, ◌<◌, ◌+◌, ℕ, if◌then◌else◌, List, [], ◌∷◌, ◌++◌, length, map, zip, Option, Some, None, option_and_then, IfSome}
+use Rattle.std.specs.Prelude.{◌≡◌, ◌⊎◌, ◌==◌, ◌<◌, ◌+◌, ℕ, if◌then◌else◌, List, [], ◌∷◌, ◌++◌, length, map, zip, Option, Some, None}
+use Rattle.std.specs.Prelude.{option_and_then, IfSome}
 use Rattle.std.specs.Global.{Global}
 use Rattle.std.specs.List.{AllByRecursion, Contains}
 use Rattle.fit_base.specs.declared.items.Items.{Items}
@@ -39,6 +40,11 @@ index_reading index = plain_reading 207 (byte_field 3 index ∷ [])
 abbrev pub description_reading : DevDef → ℕ → Naming → Reading
 description_reading d code n =
     plain_reading 206 (byte_field 0 d.index ∷ byte_field 1 d.number ∷ byte_field 2 code ∷ text_fields 3 n.name ++ text_fields 8 n.unit)
+
+-- It is a message that describes a developer field, or says its index.
+abbrev pub IsDescribing : Reading → Type 0
+IsDescribing r =
+    ((index : ℕ) × (r ≡ index_reading index)) ⊎ ((d : DevDef) × (code : ℕ) × (n : Naming) × (r ≡ description_reading d code n))
 
 -- ---- the indices that there are
 
@@ -108,6 +114,10 @@ DescribesSome before after [] = after ≡ before
 DescribesSome before after (x ∷ xs) =
     (after ≡ before) ⊎ ((IsDescribedField before x → ⊥) × AddsIndex before after x.0.index)
     ⊎ ((between : List (Record Global)) × DescribesField before between x × DescribesSome between after xs)
+
+-- The definition message is of messages that describe.
+abbrev pub IsOfDescriptions : MessageDef Global → Type 0
+IsOfDescriptions d = (d.global ≡ 206) ⊎ (d.global ≡ 207)
 
 -- the developer fields of a form
 abbrev pub dev_fields : Form → List DevField

@@ -1,10 +1,10 @@
 -- Descriptions that are put by themselves, and why they aren't.
-use Rattle.std.specs.Prelude.{◌≡◌, ◌⊎◌, ◌≤◌, ◌^◌, ℕ, List, Option, Some, None, IfSome, IsSomeAnd}
+use Rattle.std.specs.Prelude.{◌≡◌, ◌≤◌, ◌^◌, ℕ, List, Option, Some, None, IfSome, IsSomeAnd}
 use Rattle.std.specs.Global.{Global}
 use Rattle.fit_record.specs.declared.definition.MessageDef.{MessageDef}
 use Rattle.fit_record.specs.declared.message.Record.{Record}
 use Rattle.fit_from_messages.specs.Alone.{why_no_lone_definition}
-use Rattle.fit_writer.specs.Describing.{CanBeDescribed, DescribesForm, DescribesSome, dev_fields}
+use Rattle.fit_writer.specs.Describing.{CanBeDescribed, DescribesForm, DescribesSome, IsOfDescriptions, dev_fields}
 use Rattle.fit_writer.specs.Reading.{Form, form_in}
 use Rattle.fit_writer.specs.Written.{Current, Writing, data_length, with_definition, with_records}
 use Rattle.fit_writer.specs.declared.refusal.Refusal.{Refusal}
@@ -15,10 +15,6 @@ abbrev pub PutsDescriptions : Writing → Writing → Form → Type 0
 PutsDescriptions old new form =
     IsSomeAnd old.current (λ f. (after : List (Record Global)) × DescribesForm f.records after form × (new ≡ with_records old f after))
 
--- There is a definition message, and it is of messages that describe; or there is none.
-abbrev pub IsOfDescriptions : Option (MessageDef Global) → Type 0
-IsOfDescriptions defined = IfSome defined (λ d. (d.global ≡ 206) ⊎ (d.global ≡ 207))
-
 -- Some were put, the first ones; and where memory was refused, maybe the definition message of the next.
 abbrev pub PutsSome : Writing → Writing → Form → Option (MessageDef Global) → Type 0
 PutsSome old new form defined = IsSomeAnd old.current (λ f. (after : List (Record Global))
@@ -28,7 +24,7 @@ PutsSome old new form defined = IsSomeAnd old.current (λ f. (after : List (Reco
 abbrev pub KeepsSome : Writing → Writing → Form → Refusal → Type 0
 KeepsSome old new form TooLong = PutsSome old new form None
 KeepsSome old new form NoMemory =
-    (defined : Option (MessageDef Global)) × IsOfDescriptions defined × PutsSome old new form defined
+    (defined : Option (MessageDef Global)) × IfSome defined IsOfDescriptions × PutsSome old new form defined
 KeepsSome old new form _ = new ≡ old
 
 -- The definition can't stand; no messages can describe its developer fields so; or with some of these messages the data would be too long.

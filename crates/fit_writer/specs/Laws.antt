@@ -1,29 +1,32 @@
 -- What holds of messages that are put.
-use Rattle.std.specs.Prelude.{◌≡◌, ◌⊎◌, ◌==◌, ℕ, List, [], ◌∷◌, ◌++◌, Some, flat_map, if◌then◌else◌, map, reverse, zip}
+use Rattle.std.specs.Prelude.{◌≡◌, ◌⊎◌, ◌==◌, ℕ, List, [], ◌∷◌, ◌++◌, flat_map, if◌then◌else◌, map, reverse, zip}
 use Rattle.std.specs.Global.{Global}
 use Rattle.std.specs.Io.KnownBytes.{Appends}
+use Rattle.std.specs.List.{AllByRecursion}
 use Rattle.fit_base.specs.Numbers.{IsBytes}
 use Rattle.fit_record.specs.declared.file.FitFile.{FitFile}
 use Rattle.fit_record.specs.declared.message.Record.{Record}
 use Rattle.fit_record.specs.declared.message.Record.TheVariants.{Define, Values as Data}
-use Rattle.fit_record.specs.Environment.{empty_environment}
 use Rattle.fit_record.specs.Files.{IsChain, chain_limit}
-use Rattle.fit_record.specs.Records.{AllFit}
 use Rattle.fit_chain.specs.Events.{Event, header, item, file_end, file_events}
 use Rattle.fit_decode.specs.Reads.{Channel}
 use Rattle.fit_messages.specs.Blocks.{event_block}
 use Rattle.fit_from_messages.specs.Parts.{definition_in, header_in}
+use Rattle.fit_writer.specs.Describing.{IsDescribing}
 use Rattle.fit_writer.specs.Finished.{IsFinished}
 use Rattle.fit_writer.specs.Reading.{AllReadAs, Form, Reading, form_in, readings, said_reading}
-use Rattle.fit_writer.specs.Written.{BeginsFile, Current, EndsFile, IsPut, PutsDefinition, PutsMessage, Writing, nothing_written}
+use Rattle.fit_writer.specs.Written.{BeginsFile, EndsFile, IsPut, PutsDefinition, PutsMessage, Writing, nothing_written}
 use Rattle.fit_writer.specs.Written.{IsDefinitionRefusal, IsHeaderRefusal, IsMessageRefusal}
 use Rattle.fit_writer.specs.declared.refusal.Refusal.{Refusal}
-use Rattle.fit_writer.specs.declared.refusal.Refusal.TheVariants.{NoMemory, TooLong}
+use Rattle.fit_writer.specs.declared.refusal.Refusal.TheVariants.{NoMemory}
 
--- Where a reader is told what was put so far, it is after one more put.
+-- Where a reader is told what was put so far, it is after one more put, with the messages that were added before it to describe its developer
+-- fields: none where nothing was to be described.
 abbrev pub PutsAreRead : Type 0
 PutsAreRead = (before after : List (Record Global)) (puts : List Reading) (f : Form) (block : List ℕ)
-    → AllReadAs puts (readings before) → IsPut before after f block → AllReadAs (puts ++ said_reading f block ∷ []) (readings after)
+    → AllReadAs puts (readings before) → (is : IsPut before after f block)
+    → (added : List Reading) × AllByRecursion IsDescribing added × (readings is.described ≡ readings before ++ added)
+    × AllReadAs (puts ++ added ++ said_reading f block ∷ []) (readings after)
 
 -- ---- the blocks of a chain
 
@@ -66,13 +69,21 @@ PutsInOrder before after [] = after ≡ before
 PutsInOrder before after (m ∷ messages) =
     (between : List (Record Global)) × IsPut before between (form_in m.0) m.1 × PutsInOrder between after messages
 
--- Where any messages of a chain are put in their order, each is read as a reader of the chain is told it; and what was put before them, as
--- it was.
+-- These messages in their order, with others among them that describe developer fields.
+abbrev pub WithDescriptions : List Reading → List Reading → Type 0
+WithDescriptions [] [] = Unit {0}
+WithDescriptions (r ∷ part) [] = ⊥
+WithDescriptions [] (s ∷ all) = IsDescribing s × WithDescriptions [] all
+WithDescriptions (r ∷ part) (s ∷ all) = ((s ≡ r) × WithDescriptions part all) ⊎ (IsDescribing s × WithDescriptions (r ∷ part) all)
+
+-- Where any messages of a chain are put in their order, each is read as a reader of the chain is told it, with messages among them that were
+-- added to describe their developer fields; and what was put before them, as it was.
 abbrev pub PartsReadAsRead : Type 0
 PartsReadAsRead = (files : List (FitFile Global)) (bytes : List ℕ) → IsBytes bytes → IsChain chain_limit files bytes
     → (part : List ((List ℕ × List ℕ) × Reading)) → IsSelection part (zip (message_blocks (chain_heard files)) (chain_readings files))
     → (before after : List (Record Global)) (puts : List Reading) → AllReadAs puts (readings before)
-    → PutsInOrder before after (map (λ m. m.0) part) → AllReadAs (puts ++ map (λ m. m.1) part) (readings after)
+    → PutsInOrder before after (map (λ m. m.0) part)
+    → (all : List Reading) × WithDescriptions (map (λ m. m.1) part) all × AllReadAs (puts ++ all) (readings after)
 
 -- ---- a whole chain
 
@@ -106,10 +117,8 @@ IsCopyRefusal w heard (item (Data v)) why =
     IsMessageRefusal w.current (latest_definition heard v.local) (event_block heard (item (Data v))) why
 IsCopyRefusal w heard file_end why = ⊥
 
--- Where the blocks of a chain were put up to one, and what was written of the file are records, each of which fits after those before it,
--- the next block is refused for want of memory or of room alone.
+-- Where the blocks of a chain were put up to one, the next is refused for want of memory alone.
 abbrev pub CopiesAreTaken : Type 0
 CopiesAreTaken = (files : List (FitFile Global)) (bytes : List ℕ) → IsBytes bytes → IsChain chain_limit files bytes
     → (later heard : List (Event Global)) (x : Event Global) → chain_heard files ≡ later ++ x ∷ heard → (w : Writing) → Copies heard w
-    → ((f : Current) → w.current ≡ Some f → AllFit empty_environment (reverse f.records)) → (why : Refusal) → IsCopyRefusal w heard x why
-    → (why ≡ NoMemory) ⊎ (why ≡ TooLong)
+    → (why : Refusal) → IsCopyRefusal w heard x why → why ≡ NoMemory

@@ -1,21 +1,22 @@
 -- Messages of one definition that are put one after another, and why a run of their blocks stops.
-use Rattle.std.specs.Prelude.{◌≡◌, ◌⊎◌, Bool, ℕ, List, [], ◌∷◌, ◌++◌, length, Option, Some, None, IsSomeAnd}
+use Rattle.std.specs.Prelude.{◌≡◌, ◌⊎◌, Bool, ℕ, List, [], ◌∷◌, ◌++◌, length, map, Option, Some, None, IsSomeAnd}
 use Rattle.fit_from_messages.specs.Alone.{why_no_lone_definition}
 use Rattle.fit_from_messages.specs.SaysChain.{IsBlock, joined_blocks}
 use Rattle.fit_from_messages.specs.declared.fault.BlockReason.TheVariants.{Cut}
 use Rattle.fit_writer.specs.Reading.{Form, form_in}
-use Rattle.fit_writer.specs.Amounts.{AreToldAmounts, has_amounts}
+use Rattle.fit_writer.specs.Amounts.{Amounts, AreLatest, SameFirst, amounts_by, has_amounts}
 use Rattle.fit_writer.specs.Written.{Current, IsMessageRefusal, KeepsAll, PutsMessage, Writing}
 use Rattle.fit_writer.specs.declared.done.Run.{Run}
 use Rattle.fit_writer.specs.declared.refusal.Refusal.{Refusal}
 use Rattle.fit_writer.specs.declared.refusal.Refusal.TheVariants.{NoFile, Block, Message, NoMemory}
 use Rattle.fit_writer.specs.declared.refusal.RunRefusal.{RunRefusal}
 
--- The message of each block was put after those before it.
-abbrev pub PutsEach : Writing → Writing → Form → List (List ℕ) → Type 0
-PutsEach old new form [] = new ≡ old
-PutsEach old new form (block ∷ blocks) =
-    IsBlock block × (between : Writing) × PutsMessage old between form block × PutsEach between new form blocks
+-- The message of each block was put after those before it, and a reader is told these amounts of each.
+abbrev pub PutsEach : Writing → Writing → Form → List (List ℕ) → List Amounts → Type 0
+PutsEach old new form [] [] = new ≡ old
+PutsEach old new form (block ∷ blocks) (a ∷ read) =
+    IsBlock block × (between : Writing) × PutsMessage old between form block × AreLatest between a × PutsEach between new form blocks read
+PutsEach old new form _ _ = ⊥
 
 -- The bytes begin with that many blocks, up to this place, and their messages were put. Of so many first ones a reader is told the amounts
 -- that their blocks say, and not of the next.
@@ -24,8 +25,9 @@ pub record PutsRun (old new : Writing) (form : Form) (has : Bool) (bytes : List 
   pub are_joined : bytes ≡ joined_blocks blocks ++ rest
   pub counted : count ≡ length blocks
   pub at : place ≡ length (joined_blocks blocks)
-  pub put : PutsEach old new form blocks
-  pub told : IsSomeAnd old.current (λ f. IsSomeAnd new.current (λ g. AreToldAmounts f.records g.records has blocks accumulated))
+  pub read : List Amounts
+  pub put : PutsEach old new form blocks read
+  pub told : SameFirst read (map (amounts_by has) blocks) accumulated
 
 -- A file has begun, the definition stands, and the bytes are the blocks of that many messages, which were put.
 abbrev pub PutsMessages : Writing → Writing → List ℕ → List ℕ → Run → Type 0

@@ -13,10 +13,12 @@ use Rattle.fit_record.specs.declared.message.Record.TheVariants.{Define, Values 
 use Rattle.fit_record.specs.declared.message.Values.{Values}
 use Rattle.fit_record.specs.Environment.{empty_environment}
 use Rattle.fit_record.specs.Files.{chain_limit}
-use Rattle.fit_record.specs.Records.{records_bytes}
+use Rattle.fit_record.specs.Records.{Fits, records_bytes}
+use Rattle.fit_profile.specs.Looks.{known}
 use Rattle.fit_profile.specs.Times.{header_time, previous_time}
 use Rattle.fit_from_messages.specs.Alone.{why_no_lone_definition, why_no_lone_header, why_no_lone_message}
 use Rattle.fit_from_messages.specs.Parts.{definition_in, offset_in}
+use Rattle.fit_writer.specs.Describing.{CanBeDescribed, DescribesForm, DescribesSome, IsOfDescriptions, dev_fields}
 pub use Rattle.fit_writer.specs.Placed.{AreDescribed, IsDescribed, IsPlaced, SaysSame, WouldSaySame, with_definition, with_local}
 use Rattle.fit_writer.specs.Reading.{Form, dated, form_in, header_time_in, fields_time, reading_after, said_reading}
 use Rattle.fit_writer.specs.declared.refusal.Refusal.{Refusal}
@@ -96,18 +98,32 @@ IsNeeded before f block needed =
 abbrev pub CanName : List (Record Global) → List ℕ → ℕ → Type 0
 CanName before block local = (local < 16) × (KeepsOffset before block → local < 4)
 
--- A message was put after these records, in the form that it needs: a reader is told what a block of that form says. Its time offset is kept
--- where that says the same time here; else it has none.
+-- No local message type that the header can name says the same as this form, nor would a definition message that came now.
+abbrev pub NeedsDescriptions : List (Record Global) → Form → (ℕ → Type 0) → Type 0
+NeedsDescriptions before form names =
+    (WouldSaySame before form → ⊥) × ((local : ℕ) (p : Defined Global) → names local → SaysSame before local form p → ⊥)
+
+-- Before a message of this form its developer fields are described, where that is needed.
+abbrev pub DescribesBefore : List (Record Global) → List (Record Global) → Form → (ℕ → Type 0) → Type 0
+DescribesBefore before described form names =
+    (described ≡ before) ⊎ (NeedsDescriptions before form names × DescribesForm before described form)
+
+-- A message was put after these records, in the form that it needs, its developer fields described before it where that is needed: it can be
+-- next there, and a reader is told what a block of that form says. Its time offset is kept where that says the same time here; else it has
+-- none.
 pub record IsPut (before after : List (Record Global)) (f : Form) (block : List ℕ) : Type 0 where
   pub form : Form
   pub needed : IsNeeded before f block form
+  pub described : List (Record Global)
+  pub describes : DescribesBefore before described form (CanName before block)
   pub defined : Option (MessageDef Global)
   pub message : Values Global
-  pub records : after ≡ Data message ∷ with_definition defined before
-  pub told : reading_after (with_definition defined before) message ≡ Some (said_reading form block)
+  pub records : after ≡ Data message ∷ with_definition defined described
+  pub fits : Fits (known (with_definition defined described)) (Data message)
+  pub told : reading_after (with_definition defined described) message ≡ Some (said_reading form block)
   pub kept : KeepsOffset before block → message.offset ≡ offset_in block
   pub without : (KeepsOffset before block → ⊥) → message.offset ≡ None
-  pub placed : IsPlaced before form (CanName before block) defined message.local
+  pub placed : IsPlaced described form (CanName before block) defined message.local
 
 abbrev pub PutsMessage : Writing → Writing → Form → List ℕ → Type 0
 PutsMessage old new form block =
@@ -117,14 +133,32 @@ PutsMessage old new form block =
 abbrev pub PutsDefining : List (Record Global) → List (Record Global) → MessageDef Global → Type 0
 PutsDefining before after d = (local : ℕ) × (after ≡ Define (with_local d local) ∷ before)
 
--- Of the message just the definition message was put that it needs.
-abbrev pub PutsHalf : List (Record Global) → List (Record Global) → Form → List ℕ → Type 0
-PutsHalf before after f block = (needed : Form) × IsNeeded before f block needed × PutsDefining before after needed.definition
+-- Of what describes this form, where that is needed, the first messages were put.
+abbrev pub DescribesPart : List (Record Global) → List (Record Global) → Form → (ℕ → Type 0) → Type 0
+DescribesPart before after form names = NeedsDescriptions before form names × DescribesSome before after (dev_fields form)
 
--- After a refusal nothing has changed; but where memory was refused, the definition message that the message needs may have been put.
+-- Just the definition message was put, or the first of the messages that describe, and maybe the definition message of the next.
+abbrev pub DefinesPart : List (Record Global) → List (Record Global) → Form → (ℕ → Type 0) → Type 0
+DefinesPart before after form names =
+    PutsDefining before after form.definition
+    ⊎ ((described : List (Record Global)) × DescribesPart before described form names
+    × ((after ≡ described) ⊎ PutsDefining described after form.definition
+    ⊎ ((d : MessageDef Global) × IsOfDescriptions d × (after ≡ Define d ∷ described))))
+
+-- the same of the form that a message needs
+abbrev pub PutsPart : List (Record Global) → List (Record Global) → Form → List ℕ → Type 0
+PutsPart before after f block = (needed : Form) × IsNeeded before f block needed × DescribesPart before after needed (CanName before block)
+
+abbrev pub PutsHalf : List (Record Global) → List (Record Global) → Form → List ℕ → Type 0
+PutsHalf before after f block = (needed : Form) × IsNeeded before f block needed × DefinesPart before after needed (CanName before block)
+
+-- After a refusal nothing has changed; but where memory was refused, the definition message that the message needs may have been put; and where
+-- its developer fields are to be described and there is no more room or memory, the first of the messages that describe them.
 abbrev pub KeepsAll : Writing → Writing → Form → List ℕ → Refusal → Type 0
 KeepsAll old new form block NoMemory =
     (new ≡ old) ⊎ IsSomeAnd old.current (λ f. (after : List (Record Global)) × PutsHalf f.records after form block × (new ≡ with_records old f after))
+KeepsAll old new form block TooLong =
+    (new ≡ old) ⊎ IsSomeAnd old.current (λ f. (after : List (Record Global)) × PutsPart f.records after form block × (new ≡ with_records old f after))
 KeepsAll old new form block _ = new ≡ old
 
 -- ---- why a call is refused
@@ -147,15 +181,15 @@ IsDefinitionRefusal (Some f) block NoMemory = Unit {0}
 IsDefinitionRefusal (Some f) block _ = ⊥
 
 -- The blocks stand, but the message can't come after these records: a timestamp is needed where there are 255 fields or the time is the
--- number that stands for none; no definition that its header can name describes its developer fields so, nor would one that
--- came now; or the data would be too long.
+-- number that stands for none; its developer fields aren't described so, and can't be; or the data would be too long, with the message or with
+-- those that describe its developer fields.
 abbrev pub IsPlaceRefusal : List (Record Global) → Form → List ℕ → Refusal → Type 0
 IsPlaceRefusal before f block Full = (t : ℕ) × NeedsTimestamp before f block t × (length f.definition.fields ≡ 255)
 IsPlaceRefusal before f block Time = NeedsTimestamp before f block 0xFFFFFFFF × (length f.definition.fields < 255)
 IsPlaceRefusal before f block Described =
-    (needed : Form) × IsNeeded before f block needed × (WouldSaySame before needed → ⊥)
-    × ((local : ℕ) (p : Defined Global) → CanName before block local → SaysSame before local needed p → ⊥)
-IsPlaceRefusal before f block TooLong = (after : List (Record Global)) × IsPut before after f block × (2 ^ 32 ≤ data_length after)
+    (needed : Form) × IsNeeded before f block needed × NeedsDescriptions before needed (CanName before block) × (CanBeDescribed before needed → ⊥)
+IsPlaceRefusal before f block TooLong =
+    (after : List (Record Global)) × (IsPut before after f block ⊎ PutsPart before after f block) × (2 ^ 32 ≤ data_length after)
 IsPlaceRefusal before f block _ = ⊥
 
 abbrev pub IsMessageRefusal : Option Current → List ℕ → List ℕ → Refusal → Type 0

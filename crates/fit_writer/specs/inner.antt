@@ -1,7 +1,6 @@
 -- Definitions that no public contract cites: what private functions and proofs need.
 pub mod Files
 pub mod Forms
-pub mod Told
 pub mod Indices
 pub mod OpenFiles
 pub mod Places

@@ -5,9 +5,8 @@ ghost use Rattle.fit_record.specs.declared.message.Record.TheVariants.{Values as
 ghost use Rattle.fit_record.specs.declared.message.Values.{Values};
 ghost use Rattle.fit_record.specs.Records.{Fits, IsRecord, record_bytes};
 ghost use Rattle.fit_profile.specs.Looks.{known};
-ghost use Rattle.fit_writer.specs.Amounts.{amounts_in};
+ghost use Rattle.fit_writer.specs.Amounts.{amounts_in, latest_amounts};
 ghost use Rattle.fit_writer.specs.inner.OpenFiles.{AreData};
-ghost use Rattle.fit_writer.specs.inner.Told.{latest_amounts};
 
 use fit_profile::{Stream, Told};
 use fit_record::Record;

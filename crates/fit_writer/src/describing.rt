@@ -104,8 +104,7 @@ fn is_alike(x: &Wanted<'_>, y: &Wanted<'_>) -> bool
 fn is_alike_to_all(x: &Wanted<'_>, all: &Listed<'_>) -> bool
     requires first { 32 ≤ length x.now.said.now }
     requires listed_fields { IsListed all.now }
-    ensures yes { result ≡ true
-        → AllByRecursion (IsAlike (wanted x.now)) (listed_fields all.now) }
+    ensures yes { result ≡ true → AllByRecursion (IsAlike (wanted x.now)) (listed_fields all.now) }
     ensures no { result ≡ false
         → AllByRecursion (IsAlike (wanted x.now)) (listed_fields all.now) → ⊥ }
 {
@@ -130,11 +129,11 @@ fn is_describable(stream: &Stream, x: &Wanted<'_>, all: &Listed<'_>) -> bool
     requires first { 32 ≤ length x.now.said.now }
     requires listed_fields { IsListed all.now }
     ensures yes { result ≡ true → (IsDescribedField stream.now (wanted x.now)
-        ⊎ CanBeSaid (wanted x.now).1) × AllByRecursion (IsAlike (wanted x.now))
-        (listed_fields all.now) }
+        ⊎ CanBeSaid (wanted x.now).1)
+        × AllByRecursion (IsAlike (wanted x.now)) (listed_fields all.now) }
     ensures no { result ≡ false → (IsDescribedField stream.now (wanted x.now)
-        ⊎ CanBeSaid (wanted x.now).1) × AllByRecursion (IsAlike (wanted x.now))
-        (listed_fields all.now) → ⊥ }
+        ⊎ CanBeSaid (wanted x.now).1)
+        × AllByRecursion (IsAlike (wanted x.now)) (listed_fields all.now) → ⊥ }
 {
     if !is_described(stream, x.field, x.code, x.said) && !can_be_said(x.code, x.said) {
         return false;

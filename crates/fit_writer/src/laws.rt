@@ -11,7 +11,8 @@ pub fn what_is_said_was_told()
     ensures { WhatIsSaidWasTold }
 {}
 
-/// Messages of a chain that are put in their order are read as a reader of the chain is told them, whichever are left out.
+/// Messages of a chain that are put in their order are read as a reader of the chain is told them, whichever are left out, with those among
+/// them that describe developer fields.
 pub fn parts_read_as_read()
     ensures { PartsReadAsRead }
 {}
@@ -26,8 +27,7 @@ pub fn chains_can_be_copied()
     ensures { ChainsCanBeCopied }
 {}
 
-/// Where the blocks of a chain were put up to one, and what was written of the file are records, the next one is refused for want of memory
-/// or of room alone.
+/// Where the blocks of a chain were put up to one, the next one is refused for want of memory alone.
 pub fn copies_are_taken()
     ensures { CopiesAreTaken }
 {}

@@ -34,13 +34,13 @@ impl Model for Plain {
     ghost use Rattle.std.specs.Global.{Global};
     ghost use Rattle.fit_base.specs.declared.items.Items.{Items};
     ghost use Rattle.fit_record.specs.declared.definition.FieldDef.{FieldDef};
-    ghost use Rattle.fit_writer.specs.inner.Plain.{IsPlainMessage, fields_made};
+    ghost use Rattle.fit_writer.specs.inner.Plain.{IsMade, fields_made};
 
     ghost Value = { List (FieldDef × Items Global) };
 
     ghost view = { λ m. fields_made m.fields m.slots m.block.items };
 
-    ghost invariant = { λ m. IsPlainMessage m.fields m.slots m.block.items };
+    ghost invariant = { λ m. IsMade m.fields m.slots m.block.items };
 }
 
 impl Plain {

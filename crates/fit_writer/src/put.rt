@@ -4,15 +4,16 @@ ghost use Rattle.std.specs.List.{list_all};
 ghost use Rattle.fit_from_messages.specs.Alone.{why_no_message_at};
 ghost use Rattle.fit_from_messages.specs.Parts as parts;
 ghost use Rattle.fit_from_messages.specs.Parts.{slot_stands};
-ghost use Rattle.fit_writer.specs.Amounts.{amounts_by};
+ghost use Rattle.fit_writer.specs.Amounts.{amounts_by, latest_amounts};
 ghost use Rattle.fit_writer.specs.Reading as saying;
+ghost use Rattle.fit_writer.specs.Written.{NeedsDescriptions};
 ghost use Rattle.fit_writer.specs.inner.Found.{IsOwnPlace};
-ghost use Rattle.fit_writer.specs.inner.OpenFiles.{IsGoodOpenFile, IsHalfPut, current_of};
+ghost use Rattle.fit_writer.specs.inner.OpenFiles.{IsGoodOpenFile, current_of};
 ghost use Rattle.fit_writer.specs.inner.Places.{IsLone, form_of};
-ghost use Rattle.fit_writer.specs.inner.Told.{latest_amounts};
-ghost use Rattle.fit_writer.specs.inner.Puts.{IsChosen, IsHalfPutInto, IsKeptOffset, IsPutInto, IsToldIn, IsUnchosen, IsRefusedPut, IsUnplaced};
+ghost use Rattle.fit_writer.specs.inner.Puts.{IsChosen, IsHalfNeeded, IsHalfPutInto, IsKeptOffset, IsPutInto, IsToldAfterIn, IsUnchosen, IsRefusedPut, IsUnneeded, limit_of};
 
 use crate::amounts::is_told;
+use crate::describing::describe;
 use crate::file::OpenFile;
 use crate::forms::dated;
 use crate::found::own_place;
@@ -75,7 +76,33 @@ fn needed<'a>(
     Ok(Some(with_time))
 }
 
-/// Puts a message in this form and with this time offset.
+/// Puts a message in this form and with this time offset, its developer fields described before it.
+fn put_described(
+    alloc: Global,
+    file: &mut OpenFile,
+    lone: &LoneDefinition<'_>,
+    offset: Option<u8>,
+    block: &[u8],
+) -> Result<(), Refusal>
+    requires good { IsGoodOpenFile file.old }
+    requires lone { IsLone lone.now }
+    requires stand { list_all (slot_stands block.now) lone.now.slots ≡ true }
+    requires offset { IfSome offset (λ o. o < 32) }
+    requires needs { NeedsDescriptions file.old.stream (form_of lone.now)
+        (λ k. k < limit_of offset) }
+    ensures ok { OnOk result
+        (IsToldAfterIn file.old file.new (form_of lone.now) block.now offset) }
+    ensures good { IsGoodOpenFile file.new }
+    ensures err { IfErr result
+        (IsHalfNeeded file.old file.new (form_of lone.now) (limit_of offset)) }
+    ensures refused { IfErr result
+        (IsUnneeded file.old.stream (form_of lone.now) block.now offset) }
+{
+    describe(alloc, file, lone)?;
+    put_placed(alloc, file, lone, offset, block)
+}
+
+/// Puts a message in this form and with this time offset. Its developer fields are described before it where that is needed.
 fn put_needed(
     alloc: Global,
     file: &mut OpenFile,
@@ -87,13 +114,21 @@ fn put_needed(
     requires lone { IsLone lone.now }
     requires stand { list_all (slot_stands block.now) lone.now.slots ≡ true }
     requires offset { IfSome offset (λ o. o < 32) }
-    ensures ok { OnOk result (IsToldIn file.old file.new (form_of lone.now) block.now offset) }
+    ensures ok { OnOk result
+        (IsToldAfterIn file.old file.new (form_of lone.now) block.now offset) }
     ensures good { IsGoodOpenFile file.new }
-    ensures err { IfErr result (IsHalfPut file.old file.new lone.now.definition) }
+    ensures err { IfErr result
+        (IsHalfNeeded file.old file.new (form_of lone.now) (limit_of offset)) }
     ensures refused { IfErr result
-        (IsUnplaced file.old.stream (form_of lone.now) block.now offset) }
+        (IsUnneeded file.old.stream (form_of lone.now) block.now offset) }
 {
-    put_placed(alloc, file, lone, offset, block)
+    let Err(refusal) = put_placed(alloc, file, lone, offset, block) else {
+        return Ok(());
+    };
+    match refusal {
+        Refusal::Described => put_described(alloc, file, lone, offset, block),
+        _ => Err(refusal),
+    }
 }
 
 /// Puts a message in its own form and with this time offset: at a local message type that is known to be read so, where its header can name
@@ -111,11 +146,13 @@ fn put_own(
     requires stand { list_all (slot_stands block.now) lone.now.slots ≡ true }
     requires offset { IfSome offset (λ o. o < 32) }
     requires place { IfSome place.old (IsOwnPlace file.old.stream (form_of lone.now)) }
-    ensures ok { OnOk result (IsToldIn file.old file.new (form_of lone.now) block.now offset) }
+    ensures ok { OnOk result
+        (IsToldAfterIn file.old file.new (form_of lone.now) block.now offset) }
     ensures good { IsGoodOpenFile file.new }
-    ensures err { IfErr result (IsHalfPut file.old file.new lone.now.definition) }
+    ensures err { IfErr result
+        (IsHalfNeeded file.old file.new (form_of lone.now) (limit_of offset)) }
     ensures refused { IfErr result
-        (IsUnplaced file.old.stream (form_of lone.now) block.now offset) }
+        (IsUnneeded file.old.stream (form_of lone.now) block.now offset) }
     ensures place { IfSome place.new (IsOwnPlace file.new.stream (form_of lone.now)) }
 {
     let known = own_place(&file.stream, lone, *place);

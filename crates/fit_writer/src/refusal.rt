@@ -27,8 +27,8 @@ pub enum Refusal {
     /// The message needs a timestamp, and its time is the number that stands for none.
     #[error("no timestamp has the time of the message")]
     Time,
-    /// A developer field has another base type, name or unit here.
-    #[error("a developer field isn't described so")]
+    /// A developer field isn't described so, and can't be.
+    #[error("a developer field can't be described so")]
     Described,
     /// The data of the file would be too long.
     #[error("the data would be too long")]

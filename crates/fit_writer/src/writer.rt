@@ -26,8 +26,8 @@ use std::marker::Model;
 /// with that of its definition, from any file or made of values. A reader of the chain is told of each message what its block says.
 ///
 /// The writer keeps the stream that a reader of its bytes would have, and writes a message in the form in which that stream tells what was
-/// put: with a definition that is there or a new one, with its time offset or, where that would say another time, with a timestamp. Where
-/// there is no such form the call is refused, and nothing has changed.
+/// put: with a definition that is there or a new one, with its developer fields described before it, with its time offset or, where that
+/// would say another time, with a timestamp. Where there is no such form the call is refused, and nothing has changed.
 #[derive(Drop)]
 pub struct MessageWriter {
     files: Chain,
@@ -126,20 +126,23 @@ impl MessageWriter {
 
     /// Puts the message that a block says, by the block of its definition.
     ///
+    /// Where no definition is there that gives its developer fields these base types, names and units, nor would one that came now, they are
+    /// described before it, as `describe` does.
+    ///
     /// It is refused where a block can't stand by itself, which is a reason of `from_messages`; `Full` and `Time` where the message needs
-    /// a timestamp that it can't have; `Described` where no definition with its developer fields is there that gives them these base types,
-    /// names and units, nor would one that came now: put messages first that describe them; `TooLong` where the file would have more data
-    /// than a file may have.
+    /// a timestamp that it can't have; `Described` where its developer fields would have to be described and can't be, which is a reason of
+    /// `describe`; `TooLong` where the file would have more data than a file may have.
     pub fn put_message(&mut self, definition: &[u8], block: &[u8]) -> Result<Put, Refusal>
         // A reader is told what the block says, after all that it is told before.
         ensures written { OnOk result (PutsMessage self.old self.new
             (form_in definition.now) block.now) }
         // It says whether that is so of speed, distance, cycles and power too.
-        ensures accumulated { IfOk result (λ put. IsToldAmounts self.old self.new
+        ensures accumulated { IfOk result (λ put. IsToldAmounts self.new
             definition.now block.now put.accumulated) }
         ensures refused { IfErr result
             (IsMessageRefusal self.old.current definition.now block.now) }
-        // Where memory is refused, the definition message may have been put, which tells no message.
+        // Where memory is refused, the definition message may have been put, which tells no message. Where developer fields are to be
+        // described and there is no more room or memory, the first messages that describe them may have been.
         ensures unchanged { IfErr result
             (KeepsAll self.old self.new (form_in definition.now) block.now) }
     {

@@ -85,11 +85,26 @@ fn part(blocks: &[u8], number: usize) -> &[u8] {
     }
 }
 
-/// Puts a message with a developer field, which is refused because no description says what the field is.
-fn refused_undescribed(rt: &impl Abort, writer: &mut MessageWriter, blocks: &[u8]) {
-    let put = writer.put_message(part(blocks, 6), part(blocks, 7));
-    equal(rt, &put, &Err(Refusal::Described));
-}
+/// What describes a developer field, and a definition and a message with it.
+const DESCRIBED_FIRST: [u8; 65] = *b"\x0E \0\01\0\0\0.FIT^]\
+    N\0\0\xCF\0\x01\x03\x01\x02\
+    \x0E\0\
+    O\0\0\xCE\0\x04\0\x01\x02\x01\x01\x02\x02\x01\x02\x03\x03\x07\
+    \x0F\0\x05\x84mo\0\
+    a\0\0\x14\0\0\x01\x05\x02\0\
+    \x014\x12\
+    \x92>";
+
+/// The same after a definition of a developer field without a description.
+const DESCRIBED_ANEW: [u8; 75] = *b"\x0E \0\0;\0\0\0.FIT\xDE\x22\
+    a\0\0\x14\0\0\x01\x05\x02\0\
+    N\0\0\xCF\0\x01\x03\x01\x02\
+    \x0E\0\
+    O\0\0\xCE\0\x04\0\x01\x02\x01\x01\x02\x02\x01\x02\x03\x03\x07\
+    \x0F\0\x05\x84mo\0\
+    `\0\0\x14\0\0\x01\x05\x02\0\
+    \04\x12\
+    ]A";
 
 /// A definition of a developer field, its description, and with both a definition and a message.
 const DESCRIBED_LATER: [u8; 64] = *b"\x0E \0\x000\0\0\0.FIT\x9F\x91a\0\0\x14\0\0\x01\x05\x02\0\
@@ -101,10 +116,17 @@ fn developer_fields_want_their_description(rt: HostRuntime) {
     let owned = blocks_of(&rt, rt.alloc(), &DEVELOPER_FIELD);
     let blocks = owned.as_slice();
     let mut writer = begun(&rt, rt.alloc(), blocks);
-    refused_undescribed(&rt, &mut writer, blocks);
+    let put = writer.put_message(part(blocks, 6), part(blocks, 7));
+    equal(&rt, &put, &AS_SAID);
+    writes(&rt, &mut writer, &DESCRIBED_FIRST);
     // Without a description its definition says no name.
+    let mut writer = begun(&rt, rt.alloc(), blocks);
     equal(&rt, &writer.put_definition(part(blocks, 6)), &Ok(()));
-    refused_undescribed(&rt, &mut writer, blocks);
+    let put = writer.put_message(part(blocks, 6), part(blocks, 7));
+    equal(&rt, &put, &AS_SAID);
+    writes(&rt, &mut writer, &DESCRIBED_ANEW);
+    let mut writer = begun(&rt, rt.alloc(), blocks);
+    equal(&rt, &writer.put_definition(part(blocks, 6)), &Ok(()));
     let put = writer.put_message(part(blocks, 1), part(blocks, 4));
     equal(&rt, &put, &AS_SAID);
     // Now a definition that comes with the message says it.

@@ -19,14 +19,47 @@ const MESSAGES: [(usize, usize, usize, usize); 5] = [
     (1032, 1176, 1176, 1232),
 ];
 
-/// After the descriptions with `lift` for `left`, the second definition and its first message.
-const LIFTED: [u8; 92] = *b"\x0E \0\0L\0\0\0.FIT\x98\xE0\
+/// After the descriptions with `lift` for `left`: that of `left`, after that of the index, with the second definition and its first message;
+/// and that of `lift`, with a definition and the message.
+const LIFTED: [u8; 158] = *b"\x0E \0\0\x8E\0\0\0.FIT\x15i\
     @\0\0\xCE\0\x05\0\x01\x02\x01\x01\x02\x02\x01\x02\x03\x05\x07\x08\x02\x07\
     \0\0\0\x84lift\0W\0\
     \0\0\x01\x88lean\0g\0\
+    N\0\0\xCF\0\x01\x03\x01\x02\
+    \x0E\0\
+    \0\0\0\x84left\0W\0\
     a\0\x01\0\x14\x02\xFD\x04\x86\x08\x03\x0D\x02\0\x02\0\x01\x04\0\
     \x01;\x9A\xCA\x1Fd\0\x10\x01,?\xC0\0\0\
-    \x21\xC5";
+    \0\0\0\x84lift\0W\0\
+    b\0\x01\0\x14\x02\xFD\x04\x86\x08\x03\x0D\x02\0\x02\0\x01\x04\0\
+    \x02;\x9A\xCA\x1Fd\0\x10\x01,?\xC0\0\0\
+    *V";
+
+/// The same of `lean` as a float and as a uint32, where it was described as the latter.
+const FLOATS: [u8; 158] = *b"\x0E \0\0\x8E\0\0\0.FIT\x15i\
+    @\0\0\xCE\0\x05\0\x01\x02\x01\x01\x02\x02\x01\x02\x03\x05\x07\x08\x02\x07\
+    \0\0\0\x84left\0W\0\
+    \0\0\x01\x86lean\0g\0\
+    N\0\0\xCF\0\x01\x03\x01\x02\
+    \x0E\0\
+    \0\0\x01\x88lean\0g\0\
+    a\0\x01\0\x14\x02\xFD\x04\x86\x08\x03\x0D\x02\0\x02\0\x01\x04\0\
+    \x01;\x9A\xCA\x1Fd\0\x10\x01,?\xC0\0\0\
+    \0\0\x01\x86lean\0g\0\
+    b\0\x01\0\x14\x02\xFD\x04\x86\x08\x03\x0D\x02\0\x02\0\x01\x04\0\
+    \x02;\x9A\xCA\x1Fd\0\x10\x01,?\xC0\0\0\
+    \x02+";
+
+/// What describes the developer fields of the third definition, and then it and its message.
+const THIRD: [u8; 90] = *b"\x0E \0\0J\0\0\0.FIT\x18\xCA\
+    N\0\0\xCF\0\x01\x03\x01\x02\
+    \x0E\0\
+    O\0\0\xCE\0\x05\0\x01\x02\x01\x01\x02\x02\x01\x02\x03\x05\x07\x08\x02\x07\
+    \x0F\0\x01\x88lean\0g\0\
+    \x0F\0\0\x84left\0W\0\
+    b\0\0\x14\0\0\x02\x01\x04\0\0\x02\0\
+    \x02\0\0\0?-\x01\
+    ~Y";
 
 /// The third definition and its message alone.
 const NOT_DESCRIBED: [u8; 36] = *b"\x0E \0\0\x14\0\0\0.FIT\x9Cz\
@@ -141,13 +174,13 @@ fn another_name_in_the_second_file(rt: HostRuntime) {
     puts(&rt, &mut writer, blocks.as_slice(), 5);
     begin(&rt, &mut writer, blocks.as_slice());
     puts(&rt, &mut writer, described.as_slice(), 2);
-    let refused = put(&mut writer, blocks.as_slice(), 2);
-    equal(&rt, &refused, &Err(Refusal::Described));
+    equal(&rt, &put(&mut writer, blocks.as_slice(), 2), &Ok(()));
     equal(&rt, &put(&mut writer, lifted.as_slice(), 2), &Ok(()));
-    let mut sink = CutSink::<256>::new(256);
+    let mut sink = CutSink::<512>::new(512);
     equal(&rt, &writer.finish(&mut sink), &Ok(()));
     equal(&rt, &between(sink.bytes(), 0, 126), &two_fields().bytes);
-    equal(&rt, &between(sink.bytes(), 126, 218), &LIFTED.as_slice());
+    equal(&rt, &between(sink.bytes(), 126, 284), &LIFTED.as_slice());
+    equal(&rt, &sink.bytes().len(), &284);
 }
 
 #[test]
@@ -157,11 +190,11 @@ fn a_float_described_as_uint32(rt: HostRuntime) {
     begin(&rt, &mut writer, described.as_slice());
     puts(&rt, &mut writer, described.as_slice(), 2);
     let blocks = changed(&rt, rt.alloc(), &[]);
-    let refused = put(&mut writer, blocks.as_slice(), 2);
-    equal(&rt, &refused, &Err(Refusal::Described));
+    equal(&rt, &put(&mut writer, blocks.as_slice(), 2), &Ok(()));
     // With uint32 in the definition too.
     let uint32 = changed(&rt, rt.alloc(), &[(552 + 224 + 7, 0x86)]);
     equal(&rt, &put(&mut writer, uint32.as_slice(), 2), &Ok(()));
+    writes(&rt, &mut writer, &FLOATS);
 }
 
 #[test]
@@ -169,8 +202,8 @@ fn what_nothing_describes(rt: HostRuntime) {
     let blocks = changed(&rt, rt.alloc(), &[]);
     let mut writer = MessageWriter::new(rt.alloc());
     begin(&rt, &mut writer, blocks.as_slice());
-    let refused = put(&mut writer, blocks.as_slice(), 4);
-    equal(&rt, &refused, &Err(Refusal::Described));
+    equal(&rt, &put(&mut writer, blocks.as_slice(), 4), &Ok(()));
+    writes(&rt, &mut writer, &THIRD);
     // As bytes without name and unit: four at 48, and two at 96.
     let bytes = changed(
         &rt,
@@ -188,6 +221,8 @@ fn what_nothing_describes(rt: HostRuntime) {
             (1032 + 96 + 40, 0),
         ],
     );
+    let mut writer = MessageWriter::new(rt.alloc());
+    begin(&rt, &mut writer, blocks.as_slice());
     equal(&rt, &put(&mut writer, bytes.as_slice(), 4), &Ok(()));
     writes(&rt, &mut writer, &NOT_DESCRIBED);
     // After descriptions neither is without one.

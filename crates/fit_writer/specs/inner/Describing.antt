@@ -1,13 +1,12 @@
 -- Developer fields that are described in a file that has begun. No public contract names these.
-use Rattle.std.specs.Prelude.{◌≡◌, ◌⊎◌, ◌≤◌, ◌^◌, ℕ, true, List, Option, zip, map, length}
+use Rattle.std.specs.Prelude.{◌≡◌, ◌⊎◌, ◌≤◌, ◌^◌, ℕ, true, List, Option, IfSome, zip, map, length}
 use Rattle.std.specs.List.{AllByRecursion, list_all}
 use Rattle.std.specs.Global.{Global}
 use Rattle.fit_record.specs.declared.definition.DevDef.{DevDef}
 use Rattle.fit_record.specs.declared.definition.MessageDef.{MessageDef}
 use Rattle.fit_record.specs.declared.message.Record.{Record}
 use Rattle.fit_from_messages.specs.Parts.{entries_of, entry_stands}
-use Rattle.fit_writer.specs.Describing.{CanBeDescribed, CanBeSaid, DescribesSome, DevField, IsAlike, IsDescribedField, dev_fields}
-use Rattle.fit_writer.specs.Descriptions.{IsOfDescriptions}
+use Rattle.fit_writer.specs.Describing.{CanBeDescribed, CanBeSaid, DescribesSome, DevField, IsAlike, IsDescribedField, IsOfDescriptions, dev_fields}
 use Rattle.fit_writer.specs.Reading.{Form, entry_naming}
 use Rattle.fit_writer.specs.Written.{data_length, with_definition}
 use Rattle.fit_writer.specs.declared.describing.Listed.{Listed}
@@ -46,7 +45,7 @@ abbrev pub IsHalfDescribed : OpenFile → OpenFile → (List (Record Global) →
 IsHalfDescribed old new may TooLong =
     Becomes old new may × ((after : List (Record Global)) × may old.stream after × (2 ^ 32 ≤ data_length after))
 IsHalfDescribed old new may NoMemory =
-    (defined : Option (MessageDef Global)) × IsOfDescriptions defined
+    (defined : Option (MessageDef Global)) × IfSome defined IsOfDescriptions
     × ((after : List (Record Global)) × may old.stream after × (current_of new ≡ current_with old (with_definition defined after)))
 IsHalfDescribed old new may _ = ⊥
 

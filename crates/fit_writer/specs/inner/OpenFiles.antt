@@ -8,13 +8,12 @@ use Rattle.fit_record.specs.declared.message.Record.{Record}
 use Rattle.fit_record.specs.Environment.{empty_environment}
 use Rattle.fit_record.specs.Files.{chain_limit}
 use Rattle.fit_record.specs.Records.{AllFit, records_bytes}
-use Rattle.fit_writer.specs.Amounts.{amounts_in}
+use Rattle.fit_writer.specs.Amounts.{amounts_in, latest_amounts}
 use Rattle.fit_writer.specs.Written.{Current, PutsDefining, Writing, data_length}
 use Rattle.fit_writer.specs.declared.file.OpenFile.{OpenFile}
 use Rattle.fit_writer.specs.inner.Indices.{AreIndices}
 use Rattle.fit_writer.specs.declared.refusal.Refusal.{Refusal}
 use Rattle.fit_writer.specs.declared.refusal.Refusal.TheVariants.{NoMemory, TooLong}
-use Rattle.fit_writer.specs.inner.Told.{latest_amounts}
 
 -- what has been written of it
 abbrev pub current_of : OpenFile → Current

@@ -23,7 +23,7 @@ abbrev pub fields_made : List FieldDef → List Slot → List ℕ → List (Fiel
 fields_made fields slots block = zip fields (map (items_read block) slots)
 
 -- Items are of one byte and lie in the block, and no field says a time.
-pub record IsPlainMessage (fields : List FieldDef) (slots : List Slot) (block : List ℕ) : Type 0 where
+pub record IsMade (fields : List FieldDef) (slots : List Slot) (block : List ℕ) : Type 0 where
   pub stand : list_all (slot_stands block) slots ≡ true
   pub fit : SlotsFit (map (λ f. (f.code, f.size)) fields) slots
   pub bytes : AllByRecursion (λ s. s.width ≡ 1) slots

@@ -2,7 +2,7 @@ use Rattle.std.proofs.Common.{◌∙◌, ap, sym}
 use Rattle.fit_record.specs.declared.message.Record.TheVariants.{Values as Data}
 use Rattle.fit_writer.proofs.Grown.{are_more}
 use Rattle.fit_writer.proofs.ReadAmounts.{told_by}
-use Rattle.fit_writer.specs.inner.Told.{latest_amounts}
+use Rattle.fit_writer.specs.Amounts.{latest_amounts}
 use Rattle.fit_writer.proofs.data.add_message.Goals as goal
 
 pub returns-in-Ok-clause-are : goal.returns-in-Ok-clause-are

@@ -11,7 +11,7 @@ abbrev pub invariant-loop-place : goal.invariant-loop-place
 invariant-loop-place l = record {
   stand : list_all (entry_stands 1) (entries_of (length l.all.fields.now - l.place) l.rest) ≡ true;
   left : AllByRecursion (λ x. (IsDescribedField l.stream x ⊎ CanBeSaid x.1) × AllByRecursion (IsAlike x) (listed_fields l.all)) (listed_fields l.all)
-      ↔ AllByRecursion (λ x. (IsDescribedField l.stream x ⊎ CanBeSaid x.1) × AllByRecursion (IsAlike x) (listed_fields l.all))
-      (entry_fields (drop l.place l.all.fields.now) (drop l.place l.all.codes.now)
+      ↔ AllByRecursion (λ x. (IsDescribedField l.stream x ⊎ CanBeSaid x.1) × AllByRecursion (IsAlike x) (listed_fields l.all)) (entry_fields
+      (drop l.place l.all.fields.now) (drop l.place l.all.codes.now)
       (entries_of (length l.all.fields.now - l.place) l.rest));
 }

@@ -18,8 +18,8 @@ bounds-slots-place c = omega (arith, c.loop-place-test.true, c.requires.many)
 
 pub byte_at-requires : goal.byte_at-requires
 byte_at-requires c =
-    stands_at (slot_stands c.args.block.now) c.args.slots.now c.loop-place.place no_slot c.requires.stand
-    (omega (arith, c.loop-place-test.true, c.requires.many))
+    stands_at (slot_stands c.args.block.now) c.args.slots.now c.loop-place.place no_slot c.requires.stand (omega
+    (arith, c.loop-place-test.true, c.requires.many))
 
 pub returns-then-fields-place-eq3 : goal.returns-then-fields-place-eq3
 returns-then-fields-place-eq3 c =

@@ -1,7 +1,8 @@
 use Rattle.std.proofs.Common.{◌∷◌, refl}
+use Rattle.fit_base.proofs.ByteLists.{slice_is_bytes}
 use Rattle.fit_record.specs.declared.message.Record.TheVariants.{Define, Values as Data}
 use Rattle.fit_writer.proofs.Ends.{err_half, err_unplaced, ok_told}
-use Rattle.fit_writer.proofs.LoneForms.{local_few}
+use Rattle.fit_writer.proofs.LoneForms.{local_few, message_own, message_there}
 use Rattle.fit_writer.proofs.Puts.{header_fits, own_found, told_both, told_known, under}
 use Rattle.fit_writer.specs.Reading.{values_by}
 use Rattle.fit_writer.specs.Written.{with_local}
@@ -25,6 +26,10 @@ known c =
     told_known c.args.file.now.stream c.in-Some.local (form_of c.args.lone.now) c.args.block.now c.args.offset c.in-Some.ensures.some
     (own_found c.args.file.now.stream (form_of c.args.lone.now) c.find_same.result c.in-Some.local c.limit_of-limit.result c.args.offset c.in-Some.is
     c.limit_of-limit.ensures c.find_same.ensures.own)
+    (message_there c.args.file.now.stream c.in-Some.local c.args.lone.now c.args.block.now c.args.offset
+    (slice_is_bytes c.args.block.now c.type_inv.block) c.requires.lone c.in-Some.ensures.some
+    (header_fits c.args.offset c.in-Some.local c.limit_of-limit.result c.limit_of-limit.ensures c.in-Some.ensures.within c.requires.offset)
+    c.requires.stand)
 
 pub returns-in-Some-clause-ok : goal.returns-in-Some-clause-ok
 returns-in-Some-clause-ok c =
@@ -51,6 +56,9 @@ both c =
     (λ k p less same. c.in-None.ensures.none refl k p (under k c.limit_of-limit.result c.args.offset limit less) same)
     (λ less none. c.free_place-local.ensures.own (under c.args.lone.now.definition.local c.limit_of-limit.result c.args.offset limit less) none)
     (λ k less none. c.free_place-local.ensures.free k (under k c.limit_of-limit.result c.args.offset limit less) none)
+    (message_own c.args.file.now.stream c.free_place-local.result c.args.lone.now c.args.block.now c.args.offset
+    (slice_is_bytes c.args.block.now c.type_inv.block) c.requires.lone (c.would_say_same.ensures.yes c.if-not-would_say_same.false) fits
+    c.requires.stand)
 
 pub returns-else-not-would_say_same-clause-ok : goal.returns-else-not-would_say_same-clause-ok
 returns-else-not-would_say_same-clause-ok c =

@@ -1,11 +1,18 @@
 use Rattle.std.specs.Prelude.{◌↔◌, IsTrue}
 use Rattle.fit_writer.specs.Amounts.{amounts_by}
-use Rattle.fit_writer.specs.inner.Told.{latest_amounts}
-use Rattle.std.proofs.Common.{◌≡◌, ◌∙◌, ◌+◌, ℕ, arith, subst, sym}
+use Rattle.fit_writer.specs.Amounts.{latest_amounts}
+use Rattle.std.proofs.Common.{[], ◌≡◌, ◌∙◌, ◌+◌, ℕ, arith, refl, subst, sym}
 use Rattle.fit_writer.proofs.Runs.{run_more}
 use Rattle.fit_writer.specs.inner.Places.{form_of}
 use Rattle.fit_writer.specs.inner.Runs.{HasRunInto}
 use Rattle.fit_writer.proofs.run.put_run.Goals as goal
+
+pub loop-rest-init : goal.loop-rest-init
+loop-rest-init c = (
+  record { blocks = []; are_joined = refl; counted = refl; few = omega arith; read = []; put = refl; told = tt },
+  c.requires.good,
+  c.requires.found,
+)
 
 pub returns-in-Err-clause-err : goal.returns-in-Err-clause-err
 returns-in-Err-clause-err c = record {

@@ -15,7 +15,7 @@ use Rattle.fit_writer.specs.Reading.{values_by}
 use Rattle.fit_writer.specs.Written.{with_local}
 use Rattle.fit_writer.specs.inner.OpenFiles.{AreData, current_with}
 use Rattle.fit_writer.specs.inner.Indices.{AreIndices}
-use Rattle.fit_writer.specs.inner.Told.{latest_amounts}
+use Rattle.fit_writer.specs.Amounts.{latest_amounts}
 use Rattle.fit_writer.specs.inner.Places.{form_of}
 use Rattle.fit_writer.proofs.file.OpenFile.put_both.Goals as goal
 use Rattle.fit_writer.proofs.file.OpenFile.put_both.Goals.{After-has_room}

@@ -3,7 +3,7 @@ use Rattle.fit_record.specs.declared.message.Record.TheVariants.{Define}
 use Rattle.fit_writer.proofs.Grown.{grown_length, too_long}
 use Rattle.fit_writer.specs.inner.Indices.{AreIndices}
 use Rattle.fit_writer.specs.inner.OpenFiles.{AreData}
-use Rattle.fit_writer.specs.inner.Told.{latest_amounts}
+use Rattle.fit_writer.specs.Amounts.{latest_amounts}
 use Rattle.fit_writer.proofs.file.OpenFile.put_definition.Goals as goal
 
 pub returns-then-not-has_room-clause-refused : goal.returns-then-not-has_room-clause-refused

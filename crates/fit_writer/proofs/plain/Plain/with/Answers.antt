@@ -4,7 +4,7 @@ use Rattle.fit_base.specs.declared.items.Items.{Items}
 use Rattle.fit_record.specs.declared.definition.FieldDef.{FieldDef}
 use Rattle.fit_from_messages.specs.declared.slot.Slot.{Slot}
 use Rattle.fit_writer.proofs.PlainMessages.{last_slot, made_length, made_more, plain_more}
-use Rattle.fit_writer.specs.inner.Plain.{IsPlainMessage, fields_made}
+use Rattle.fit_writer.specs.inner.Plain.{IsMade, fields_made}
 use Rattle.fit_writer.proofs.plain.Plain.with.Goals as goal
 use Rattle.fit_writer.proofs.plain.Plain.with.Goals.{In_ok-extend_from_slice}
 
@@ -23,9 +23,9 @@ invariant_of-result c =
     let slots : c.push.new.self ≡ c.self.inside.slots ++ last_slot c.self.inside.block.items c.args.bytes.now ∷ [] = search rules in
     let fields : c.push-2.new.self ≡ c.self.inside.fields ++ field a ∷ [] = search rules in
     let block : c.extend_from_slice.new.self.items ≡ c.self.inside.block.items ++ c.args.bytes.now = search rules in
-    subst (λ (fs : List FieldDef). IsPlainMessage fs c.push.new.self c.extend_from_slice.new.self.items) (sym fields)
-    (subst (λ (ss : List Slot). IsPlainMessage (c.self.inside.fields ++ field a ∷ []) ss c.extend_from_slice.new.self.items) (sym slots)
-    (subst (λ (bs : List ℕ). IsPlainMessage (c.self.inside.fields ++ field a ∷ [])
+    subst (λ (fs : List FieldDef). IsMade fs c.push.new.self c.extend_from_slice.new.self.items) (sym fields)
+    (subst (λ (ss : List Slot). IsMade (c.self.inside.fields ++ field a ∷ []) ss c.extend_from_slice.new.self.items) (sym slots)
+    (subst (λ (bs : List ℕ). IsMade (c.self.inside.fields ++ field a ∷ [])
     (c.self.inside.slots ++ last_slot c.self.inside.block.items c.args.bytes.now ∷ []) bs)
     (sym block)
     (plain_more c.self.inside.fields c.self.inside.slots c.self.inside.block.items c.args.bytes.now (field a) c.self.invariant refl c.requires.number

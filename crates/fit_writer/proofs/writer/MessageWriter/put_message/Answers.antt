@@ -24,6 +24,5 @@ returns-in-Ok-clause-written c =
 
 pub returns-in-Ok-clause-accumulated : goal.returns-in-Ok-clause-accumulated
 returns-in-Ok-clause-accumulated c =
-    told_amounts c.args.self.now c.self.inside.files c.self.inside.is_open c.self.inside.file c.put_told.new.file (form_of c.in-Ok.lone)
-    c.args.definition.now c.args.block.now c.has_amounts-has.result c.put_told.result c.self.view_is c.if-not-self.false c.has_amounts-has.ensures
-    c.put_told.ensures.ok c.put_told.ensures.told
+    told_amounts c.self.inside.files c.self.inside.is_open c.put_told.new.file c.args.definition.now c.args.block.now c.has_amounts-has.result
+    c.put_told.result c.if-not-self.false c.has_amounts-has.ensures c.put_told.ensures.told
