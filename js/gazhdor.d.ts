@@ -89,7 +89,7 @@ export class WrongValue extends RangeError {
     readonly least: Whole | null
     readonly most: Whole | null
 }
-/** A message can't be put into a file: its developer field isn't described where it comes from, and is in this file. */
+/** A message can't be put into a file: its developer field isn't described where it comes from, and is in this file, or can't be described. */
 export class NotDescribed extends Error {
     private constructor()
     readonly field: string

@@ -46,7 +46,7 @@ export const BLOCK_REASONS = {
     Files: "begins one file more than a chain may have",
     Full: "is a message of 255 fields that needs a timestamp",
     Time: "is a message that needs a timestamp, and whose time is the number that stands for none",
-    Described: "is a message of which a developer field has another base type, name or unit in this file, or none",
+    Described: "is a message of which a developer field can't be described with its base type, name and unit",
     TooLong: "would make the data of its file longer than a file may have",
 }
 
@@ -132,10 +132,11 @@ export class WrongValue extends RangeError {
     }
 }
 
-/* A message can't be put into a file: its developer field `field` isn't described where it comes from, and is in this file. */
+/* A message can't be put into a file: its developer field `field` isn't described where it comes from, and is in this file, or can't be described. */
 export class NotDescribed extends Error {
-    constructor(field) {
-        super(`the developer field ${field} isn't described where it comes from, and is in this file`)
+    constructor(field, isTold) {
+        const what = "can't be described: its name or its unit can't be written, or another of its numbers has others"
+        super(`the developer field ${field} ${isTold ? what : "isn't described where it comes from, and is in this file"}`)
         this.field = field
     }
 }

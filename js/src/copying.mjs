@@ -1,4 +1,5 @@
 /* Puts events into a writer, and messages of one definition that follow one another together. */
+import { Amounts } from "./distances.mjs"
 import { insideOf } from "./messages.mjs"
 import { EXTRA } from "./names.mjs"
 import { AT_MESSAGE_LOCAL, DEFINITION, FILE_HEADER } from "./numbers.mjs"
@@ -12,6 +13,7 @@ export class Copier {
     #local = null
     #blocks = new Uint8Array(MOST)
     #length = 0
+    #amounts = new Amounts()
 
     constructor(gazhdor) { this.#writer = new Writer(gazhdor, { names: EXTRA, learns: false }) }
 
@@ -23,17 +25,21 @@ export class Copier {
     /* A header, a definition message or the end of a file, which comes with the next header or with the end of all. */
     event({ kind, block }) {
         this.flush()
-        if (kind === FILE_HEADER) this.#writer.begin(block)
-        else if (kind === DEFINITION) this.#writer.putDefinition(block)
+        if (kind === FILE_HEADER) {
+            this.#writer.begin(block)
+            this.#amounts = new Amounts()
+        } else if (kind === DEFINITION) this.#writer.putDefinition(block)
     }
 
     message(message) {
-        const { definition, part, at } = insideOf(message), length = definition.messageLength, local = part.bytes[at + AT_MESSAGE_LOCAL]
+        const { definition, part, at } = insideOf(this.#amounts.kept(message)), length = definition.messageLength, local = part.bytes[at + AT_MESSAGE_LOCAL]
         if (definition !== this.#definition || local !== this.#local || this.#length + length > this.#blocks.length) this.flush()
         if (length > this.#blocks.length) this.#blocks = new Uint8Array(length)
         this.#definition = definition
         this.#local = local
-        this.#blocks.set(part.bytes.subarray(at, at + length), this.#length)
+        const block = part.bytes.subarray(at, at + length)
+        this.#amounts.take(definition, block)
+        this.#blocks.set(block, this.#length)
         this.#length += length
     }
 

@@ -3,7 +3,7 @@
 import { Answer, OutOfMemory, Trapped, WrongModule } from "./answers.mjs"
 import { NO_MEMORY } from "./numbers.mjs"
 
-export const VERSION = "0.9.0"
+export const VERSION = "0.10.0"
 
 const CALLS = ["check", "table", "to_csv", "show", "messages", "from_csv", "from_messages", "open", "feed", "finish", "close", "alloc", "free", "version"]
 const WRITER_CALLS = ["open", "file", "definition", "messages", "finish", "close"].map(name => `writer_${name}`)

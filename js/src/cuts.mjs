@@ -39,7 +39,8 @@ class Part {
     #cut = new Map() // of the laps and sessions that are cut, the part of each
     #recordTime = null
     #time = null
-    #isLater = false
+    #hasRecord = false // whether a record stays
+    #isLater = false // whether one before it was left out
     #odometer = null
     #sportsAsked = 0
     #wholes = null // of laps and sessions that stay as they are the numbers
@@ -94,7 +95,7 @@ class Part {
         }
         if (number === ZONES && !this.#isOfWhole(message)) return null
         if (this.#time === null || this.#stays(message, this.#time)) return number === RECORD ? this.#ofRecord(message) : message
-        this.#isLater ||= number === RECORD
+        this.#isLater ||= number === RECORD && !this.#hasRecord
         return null
     }
 
@@ -105,8 +106,9 @@ class Part {
         return !Number.isInteger(start) || this.#span.has(start)
     }
 
-    /* A record that stays. Where some before it don't, distances begin at 0 again. */
+    /* A record that stays. Where some before the first one don't, distances begin at 0 again. */
     #ofRecord(record) {
+        this.#hasRecord = true
         if (this.#isLater) this.#odometer ??= new Odometer()
         return this.#odometer?.moved(record) ?? record
     }

@@ -21,6 +21,8 @@ import { partOf } from "./values.mjs"
 const POSITION = "position", TIMESTAMP = 253, TIMES = ["timestamp", "start_time", "local_timestamp"]
 /* Of fields of records, by their numbers, what a reader tells of them beside their values: speed and sums. */
 const TOLD = new Map([[8, TOLD_SPEED | TOLD_DISTANCE], [18, TOLD_CYCLES], [28, TOLD_POWER]])
+/* The same of the fields that have these sums whole. */
+const WHOLE = [["distance", 5, TOLD_DISTANCE], ["total_cycles", 19, TOLD_CYCLES], ["accumulated_power", 29, TOLD_POWER]]
 
 /* Whether a word names a field: FIELD, or MESSAGE.FIELD, each a name or a number. */
 function isNamed(word, { message, messageNumber, field, number }) {
@@ -52,8 +54,8 @@ class Editor {
         this.#shift = shift
     }
 
-    /* What is emptied in the messages of a definition, which of their fields are times, whether times in headers are left out, and the bits of
-     * what a reader tells of the fields that are emptied. */
+    /* What is emptied in the messages of a definition, which of their fields are times, whether times in headers are left out, the bits of what a
+     * reader tells of the fields that are emptied, and of what isn't written whole. */
     #plan(definition) {
         let plan = this.#plans.get(definition)
         if (plan === undefined) {
@@ -61,8 +63,9 @@ class Editor {
             const own = definition.number === RECORD ? entries.filter(entry => entry.index === null) : []
             const told = own.reduce((bits, entry) => bits | (TOLD.get(entry.number) ?? 0), 0)
             const times = definition.entries.filter(entry => entry.type !== null && entry.scale === 1 && entry.offset === 0)
-            const ofHeader = { message: definition.name, messageNumber: definition.number, field: "timestamp", number: TIMESTAMP }
-            this.#plans.set(definition, plan = { dropped, times, told, dropsHeaders: this.#drop.some(word => isNamed(word, ofHeader)) })
+            const drops = (field, number) => this.#drop.some(word => isNamed(word, { message: definition.name, messageNumber: definition.number, field, number }))
+            const wholes = WHOLE.reduce((bits, [field, number, bit]) => (drops(field, number) ? bits | bit : bits), 0)
+            this.#plans.set(definition, plan = { dropped, times, told, wholes, dropsHeaders: drops("timestamp", TIMESTAMP) })
         }
         return plan
     }
@@ -85,11 +88,13 @@ class Editor {
 
     /* A message of which no sum is told that a reader makes of a field which is emptied. */
     untold(message) {
-        const { definition } = insideOf(message), told = this.#drop.length === 0 ? 0 : this.#plan(definition).told
-        if (told === 0) return message
-        const part = partOf(blockOf(insideOf(message)))
-        part.bytes[AT_MESSAGE_BITS] &= ~told
-        return messageOf({ definition, part, at: 0 })
+        return this.#drop.length === 0 ? message : without(message, this.#plan(insideOf(message).definition).told)
+    }
+
+    /* A message with the changes, of which no sum is written into a field that is emptied. */
+    put(message) {
+        const made = this.changed(message)
+        return this.#drop.length === 0 ? made : without(made, this.#plan(insideOf(made).definition).wholes)
     }
 
     changed(message) {
@@ -132,6 +137,14 @@ class Editor {
             if (!/^\d+$/.test(field) && !allFields().has(field)) throw new UnknownName("neither the profile nor the file has a field", field, allFields())
         }
     }
+}
+
+/* A message that doesn't tell what these bits stand for. */
+function without(message, bits) {
+    if (bits === 0) return message
+    const part = partOf(blockOf(insideOf(message)))
+    part.bytes[AT_MESSAGE_BITS] &= ~bits
+    return messageOf({ definition: insideOf(message).definition, part, at: 0 })
 }
 
 /* The names of all fields that the profile and EXTRA have. */
@@ -182,7 +195,7 @@ class Edited {
     /* Puts what stands where a message was. */
     #put(found) {
         if (found instanceof Anew) this.#editor.anew(found).write(this.#out)
-        else if (found !== null) this.#out.message(this.#editor.changed(found))
+        else if (found !== null) this.#out.message(this.#editor.put(found))
     }
 
     /* The bytes of all, and how many values were emptied of each field. */

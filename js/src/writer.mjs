@@ -1,11 +1,13 @@
 /* Files that are written from values, and from what others have. */
-import { NotDescribed, WrongValue, judgeBlocks } from "./answers.mjs"
+import { judgeBlocks } from "./answers.mjs"
 import { packerOf } from "./changed.mjs"
 import { Chain } from "./chain.mjs"
-import { baseNamed, baseOf, definitionBlock, emptyMessage, fieldOf, newHeader } from "./definitions.mjs"
+import { baseNamed, baseOf, definitionBlock, emptyMessage, newHeader } from "./definitions.mjs"
+import { described, notDescribed } from "./describing.mjs"
+import { Amounts } from "./distances.mjs"
 import { insideOf } from "./messages.mjs"
 import { seeNames } from "./names.mjs"
-import { AT_DEFINITION_ARCHITECTURE, AT_DEFINITION_LOCAL, AT_DEFINITION_RESERVED, AT_MESSAGE_LOCAL, BIG_ENDIAN } from "./numbers.mjs"
+import { AT_DEFINITION_LOCAL, AT_MESSAGE_LOCAL } from "./numbers.mjs"
 import { UnknownName } from "./profile.mjs"
 import { DeveloperField, messageNumber, shapesOf } from "./shapes.mjs"
 import { definitionOf } from "./shared.mjs"
@@ -16,8 +18,6 @@ import { numbered } from "./worded.mjs"
 const DESCRIPTION = 206, DEVELOPER_DATA = 207
 const MOST = 16 // So many layouts are kept of messages whose fields have now more items and now fewer.
 const layoutsOf = new WeakMap() // by the shapes of their fields
-const BYTE = baseNamed("byte")
-const TIMESTAMP = { number: 253, index: null, base: baseNamed("uint32"), size: 4, name: "timestamp", unit: "s", scale: 1, offset: 0 }
 
 const pairs = values => (values instanceof Map ? [...values] : Object.entries(values))
 
@@ -91,6 +91,8 @@ export class Writer {
     #developers = new Map()
     #indices = new Set()
     #kinds = new Map()
+    #own = null // the developer fields of the last messages that have some
+    #amounts = new Amounts()
     #learns // whether developer fields that are described may be named
     #isFinished = false
 
@@ -143,7 +145,7 @@ export class Writer {
 
     /* Writes a message that was read, as it is or with other values. */
     copy(message) {
-        const { definition, part, at } = insideOf(message)
+        const { definition, part, at } = insideOf(this.#amounts.kept(message))
         this.put(definition, part.bytes.subarray(at, at + definition.messageLength))
     }
 
@@ -173,9 +175,11 @@ export class Writer {
         const chain = this.#chain ?? new Chain(this.#core)
         chain.begin(header)
         this.#chain = chain
+        this.#amounts = new Amounts()
         this.#developers.clear()
         this.#indices.clear()
         this.#kinds.clear()
+        this.#own = null
     }
 
     /* Puts a definition message by its block. */
@@ -191,10 +195,24 @@ export class Writer {
     put(definition, blocks) {
         const chain = this.#begun(), block = localOf(definition.block, blocks[AT_MESSAGE_LOCAL])
         if (definition.number === DESCRIPTION && this.#learns) this.#learn(definition, blocks)
-        let answer = chain.put(block, blocks)
-        if (answer.reason === "Described") answer = this.#described(definition, block, blocks.subarray(answer.place))
+        const answer = chain.put(block, blocks)
+        if (this.#learns && (answer.good || answer.block > 0)) this.#learnOwn(definition)
+        if (answer.reason === "Described") throw notDescribed(definition)
         judgeBlocks(answer)
+        this.#amounts.take(definition, blocks)
         if (definition.number === DEVELOPER_DATA) this.#each(definition, blocks, (of, part, at) => this.#indices.add(of(3, part, at)))
+    }
+
+    /* Takes in the developer fields of messages that were put, which were described with these if they weren't. What was named before keeps its
+     * name. */
+    #learnOwn(definition) {
+        const own = described(definition), known = this.#developers
+        if (own.length === 0 || own === this.#own) return
+        for (const of of own) {
+            if (!known.has(`${of.index} ${of.number}`)) this.#indices.add(of.index)
+            for (const key of [`${of.index} ${of.number}`, of.name]) if (key !== null && !known.has(key)) known.set(key, of)
+        }
+        this.#own = own
     }
 
     /* Takes in what descriptions say, before they are put. */
@@ -218,44 +236,6 @@ export class Writer {
         }
         for (let at = 0; at < blocks.length; at += definition.messageLength) call(of, part, at)
     }
-
-    /* Puts messages after their definition message; where the file describes developer fields of it otherwise, after these descriptions. */
-    #described(definition, block, blocks) {
-        let answer = this.#defined(definition, block, blocks)
-        if (answer.reason !== "Described") return answer
-        const own = definition.entries.filter(({ index }) => index !== null)
-        for (const entry of own.filter(isTold)) {
-            try {
-                this.describe(entry.name ?? "", { unit: entry.unit ?? "", base: entry.baseType, index: entry.index, number: entry.number })
-            } catch (error) {
-                throw error instanceof WrongValue ? new NotDescribed(labelOf([entry.index, entry.number])) : error
-            }
-        }
-        answer = this.#defined(definition, block, blocks)
-        const other = own.find(entry => !isTold(entry)) ?? own[0]
-        if (answer.reason === "Described") throw new NotDescribed(other.name ?? other.numbers)
-        return answer
-    }
-
-    /* Puts a definition message, and the messages after it: as they are or, where they need it, with a timestamp. */
-    #defined(definition, block, blocks) {
-        let answer
-        for (const one of [block, datedBlock(definition, block)]) {
-            this.#chain.define(one)
-            answer = this.#chain.put(block, blocks)
-            if (answer.reason !== "Described") break
-        }
-        return answer
-    }
-}
-
-/* Whether something is said of a developer field. */
-const isTold = entry => entry.name !== null || entry.unit !== null || entry.baseType !== BYTE.code
-
-/* The block of a definition with a timestamp before its fields. */
-function datedBlock(definition, block) {
-    const fields = [TIMESTAMP, ...definition.entries.map(fieldOf)], isBig = block[AT_DEFINITION_ARCHITECTURE] === BIG_ENDIAN
-    return definitionBlock(definition.number, fields, { local: block[AT_DEFINITION_LOCAL], isBig, reserved: block[AT_DEFINITION_RESERVED] })
 }
 
 /* The block of a definition with a local message type. */

@@ -52,7 +52,7 @@ test("the module has all calls, no import, and is no larger than it may be", asy
     assert.deepEqual(WebAssembly.Module.imports(module), [])
     assert.deepEqual(WebAssembly.Module.exports(module).map(({ name }) => name).sort(), [...calls.map(name => `gazhdor_${name}`), "memory"].sort())
     assert.ok(MODULE.length <= 500 * 1024, `${MODULE.length} bytes`)
-    assert.ok(gzipSync(MODULE, { level: 9 }).length <= 164 * 1024, "gzipped")
+    assert.ok(gzipSync(MODULE, { level: 9 }).length <= 160 * 1024, "gzipped")
     assert.equal(VERSION, textAt("VERSION").trim())
     assert.equal(JSON.parse(textAt("js/package.json")).version, VERSION)
 })

@@ -13,7 +13,7 @@ TREE = os.path.dirname(os.path.dirname(os.path.dirname(os.path.abspath(__file__)
 sys.path[:0] = [os.path.join(TREE, "python"), os.path.join(TREE, "python", "tests")]
 sys.dont_write_bytecode = True
 import gazhdor  # noqa: E402
-from activities import activity  # noqa: E402
+from activities import activity, strayed  # noqa: E402
 
 ACTIVITIES = 50
 DROPS = (["position"], ["heart_rate"], ["record.heart_rate", "lap.9", "hrv.0"], ["20.5", "position", "total_distance"], ["position_lat"])
@@ -95,6 +95,7 @@ def main():
     for k in range(ACTIVITIES):
         names.append(f"activity-{k}.fit")
         add(calls, r, names[-1], activity(k))
+        add(calls, r, f"strayed-{k}.fit", strayed(k)[0])
     for k in range(0, ACTIVITIES, 2):
         calls.join(names[k : k + 2], True)
         calls.join(names[k : k + 2], False)

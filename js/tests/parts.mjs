@@ -1,5 +1,5 @@
-/* What is so of the parts of an activity that is cut at 20 places, and of these joined again: by the sums of what is read. As a worker it sees
- * some of the activities of a folder. */
+/* What is so of the parts of an activity, or of any recording, that is cut at 20 places, and of these joined again: by the sums of what is read. As a
+ * worker it sees some of the files of a folder. */
 import assert from "node:assert/strict"
 import { join } from "node:path"
 import { isMainThread, parentPort, workerData } from "node:worker_threads"
@@ -20,7 +20,10 @@ class Read {
 
     constructor(gazhdor, bytes) {
         this.all = [...gazhdor.messages(bytes, { names: EXTRA })]
-        for (const message of this.all) this.#byName.set(message.name, [...this.#byName.get(message.name) ?? [], message])
+        for (const message of this.all) {
+            if (!this.#byName.has(message.name)) this.#byName.set(message.name, [])
+            this.#byName.get(message.name).push(message)
+        }
         this.records = this.of("record")
     }
 
@@ -46,15 +49,26 @@ function ranUpTo(read, time) {
     return since === null ? total : total + time - since
 }
 
-/* The parts of an activity between random times of its records, with the first and the last second of each. */
+/* The parts of a file between random times of its records, with the first and the last second of each; those in which no record is are left out. */
 function partsOf(gazhdor, bytes, records, below) {
-    const times = [...new Set(records.map(({ seconds }) => seconds))].sort((one, other) => one - other).slice(1), cuts = []
-    while (cuts.length < PLACES) cuts.push(...times.splice(below(times.length), 1))
+    const known = records.map(({ seconds }) => seconds).filter(seconds => seconds !== null)
+    const times = [...new Set(known)].sort((one, other) => one - other).slice(1), cuts = []
+    while (cuts.length < PLACES && times.length > 0) cuts.push(...times.splice(below(times.length), 1))
     cuts.sort((one, other) => one - other)
-    return [undefined, ...cuts].map((begin, k) => {
-        const end = k < PLACES ? cuts[k] - 1 : undefined, { bytes: made } = gazhdor.edit(bytes, { begin, end })
-        return { begin, end, made, read: new Read(gazhdor, made) }
+    return [undefined, ...cuts].flatMap((begin, k) => {
+        const end = k < cuts.length ? cuts[k] - 1 : undefined, made = partOf(gazhdor, bytes, { begin, end })
+        return made === null ? [] : [{ begin, end, made, read: new Read(gazhdor, made) }]
     })
+}
+
+function partOf(gazhdor, bytes, span) {
+    if (span.begin === undefined && span.end === undefined) return gazhdor.edit(bytes).bytes
+    try {
+        return gazhdor.edit(bytes, span).bytes
+    } catch (error) {
+        if (error instanceof RangeError && error.message === "no record has a time in that span") return null
+        throw error
+    }
 }
 
 /* That a part says of itself what its records say, and has nothing of outside. */
@@ -87,10 +101,20 @@ function seeMessages(data, both, parts) {
     const accumulated = data.records.map(record => [record.totalCycles, record.accumulatedPower])
     assert.deepEqual(both.records.map(counted), accumulated)
     assert.deepEqual(parts.flatMap(({ read }) => read.records.map(counted)), accumulated)
-    const beats = read => read.of("hrv").flatMap(message => message.values("time"))
-    assert.deepEqual(beats(both), beats(data))
+    seeBeats(data, both)
     const begins = parts.map(({ begin }) => begin), strokes = lengths => lengths.map(message => message.get("total_strokes"))
     assert.deepEqual(strokes(both.of("length")), strokes(data.of("length").filter(({ seconds }) => !begins.includes(seconds))))
+}
+
+function seeBeats(data, both) {
+    const beats = read => read.of("hrv").flatMap(message => message.values("time"))
+    assert.deepEqual(beats(both), beats(data))
+}
+
+/* What lies between the parts: of each gap what the first record after it has more than the last one before it. */
+function lostBetween({ records }, parts) {
+    const gaps = parts.slice(1).map(({ begin }) => records.findIndex(({ seconds }) => seconds >= begin)).map(at => [records[at - 1], records[at]])
+    return of => gaps.reduce((sum, [before, after]) => sum + of(after) - of(before), 0)
 }
 
 /* That what is joined names laps and lengths by the numbers that these have there, and no session that is gone. */
@@ -108,8 +132,7 @@ function seeNumbers(both) {
 /* That sums are those of the whole: what is lost lies between the last record of a part and the first of the next one. */
 function seeSums(data, both, parts) {
     const { records } = data, laps = both.of("lap"), sessions = data.of("session"), [session, ...more] = both.of("session")
-    const gaps = parts.slice(1).map(({ begin }) => records.findIndex(({ seconds }) => seconds >= begin)).map(at => [records[at - 1], records[at]])
-    const lost = of => gaps.reduce((sum, [before, after]) => sum + of(after) - of(before), 0)
+    const lost = lostBetween(data, parts)
     const distance = records.at(-1).distance - records[0].distance - lost(record => record.distance)
     near(session.get("total_distance"), distance, "the distance of all")
     const timer = sumOf(sessions, "total_timer_time") - lost(record => ranUpTo(data, record.seconds))
@@ -138,9 +161,33 @@ function seeWholes(data, parts, name, number) {
         if (told.get(index).get("total_elapsed_time") > 1) assert.equal(share, told.get(index).get("total_calories"))
 }
 
+const sorted = records => records.map(record => JSON.stringify(whole(record), (_, value) => (typeof value === "bigint" ? `${value}n` : value))).sort()
+const timed = records => records.filter(({ seconds }) => seconds !== null)
+
+/* Any recording: records and beats are those of the whole, and so are the sums of such as have laps or sessions. */
+export function seeRecording(gazhdor, bytes, hasSums) {
+    const data = new Read(gazhdor, bytes), parts = partsOf(gazhdor, bytes, data.records, random(bytes.length))
+    for (const { begin = 0, end = Infinity, read } of parts)
+        for (const { seconds } of timed(read.records)) assert.ok(seconds >= begin && seconds <= end)
+    assert.deepEqual(sorted(timed(parts.flatMap(({ read }) => read.records))), sorted(timed(data.records)))
+    if (!hasSums) return
+    const both = new Read(gazhdor, gazhdor.join(parts.map(({ made }) => made), { one: true })), laps = both.of("lap")
+    assert.deepEqual(sorted(both.records), sorted(data.records))
+    seeBeats(data, both)
+    if (data.records.length === 0) return
+    const [session] = both.of("session"), wholes = data.of("session").length > 0 ? data.of("session") : data.of("lap"), { records } = data
+    const lost = lostBetween(data, parts), timer = wholes.reduce((sum, of) => sum + (of.get("total_timer_time") ?? of.get("total_elapsed_time")), 0)
+    assert.equal(session.get("total_timer_time"), timer - lost(record => ranUpTo(data, record.seconds)))
+    assert.deepEqual([sumOf(laps, "total_timer_time"), laps.length], [session.get("total_timer_time"), session.get("num_laps")])
+    assert.deepEqual([session.get("total_calories") ?? null], wholes.map(of => of.get("total_calories") ?? null))
+    if (records[0].distance !== null)
+        near(session.get("total_distance"), records.at(-1).distance - records[0].distance - lost(record => record.distance), "the distance of all")
+}
+
 /* The activity of a number. */
 export function seeActivity(gazhdor, bytes, number) {
     const data = new Read(gazhdor, bytes), parts = partsOf(gazhdor, bytes, data.records, random(number))
+    assert.equal(parts.length, PLACES + 1)
     const both = new Read(gazhdor, gazhdor.join(parts.map(({ made }) => made), { one: true }))
     for (const part of parts) seePart(part)
     seeMessages(data, both, parts)
@@ -151,13 +198,15 @@ export function seeActivity(gazhdor, bytes, number) {
 }
 
 if (!isMainThread) {
-    const gazhdor = await open(), { place, numbers } = workerData
-    for (const number of numbers) {
+    const gazhdor = await open(), { place, names } = workerData
+    for (const name of names) {
+        const bytes = bytesAt(join(place, name)), number = /^activity-(\d+)\.fit$/.exec(name)?.[1]
         try {
-            seeActivity(gazhdor, bytesAt(join(place, `activity-${number}.fit`)), number)
+            if (number === undefined) seeRecording(gazhdor, bytes, /^recorded-|^ride/.test(name))
+            else seeActivity(gazhdor, bytes, Number(number))
         } catch (error) {
-            throw new Error(`activity-${number}.fit: ${error.stack}`)
+            throw new Error(`${name}: ${error.stack}`)
         }
     }
-    parentPort.postMessage(numbers.length)
+    parentPort.postMessage(names.length)
 }

@@ -4,8 +4,8 @@ import { test } from "node:test"
 import { setFlagsFromString } from "node:v8"
 import { runInNewContext } from "node:vm"
 
-import { BlocksRefused, EXTRA, Gazhdor, UnknownName, Writer, WrongValue, open, semicircles } from "../gazhdor.mjs"
-import { le, file } from "./bytes.mjs"
+import { BlocksRefused, EXTRA, Gazhdor, NotDescribed, UnknownName, Writer, WrongValue, open, semicircles } from "../gazhdor.mjs"
+import { le, file, records } from "./bytes.mjs"
 import { RIDE, allFiles, joined, random, thrown, trapping } from "./tools.mjs"
 
 const gazhdor = await open()
@@ -81,6 +81,53 @@ test("developer fields", () => {
     assert.deepEqual([...gazhdor.messages(bytes, { only: 207 })].map(message => message.get("application_id")), [new Uint8Array(16).fill(7)])
 })
 
+test("developer fields that come with messages are described once in a file, and can be named", () => {
+    const source = written(out => {
+        const core = out.describe("Core", { unit: "C", base: "float32" })
+        out.define("record", ["heart_rate", core]).write(new Map([["heart_rate", 60], [core, 37.5]]))
+    })
+    const [record] = gazhdor.messages(source, { only: "record" })
+    const bytes = written(out => {
+        out.copy(record)
+        out.copy(record)
+        out.write("record", { Core: 38 })
+        out.write("record", new Map([[[0, 0], 38.5]]))
+        out.write("record", new Map([[out.describe("Lean", { base: "sint8" }), -8]]))
+        out.file()
+        out.copy(record)
+    })
+    const index = { developer_data_index: 0 }, told = (number, code, name) => ({ ...index, field_definition_number: number, fit_base_type_id: code, field_name: name })
+    const core = { ...told(0, 0x88, "Core"), units: "C" }, both = { heart_rate: 60, Core: 37.5 }
+    assert.deepEqual(read(bytes), [index, core, both, both, { Core: 38 }, { Core: 38.5 }, told(1, 1, "Lean"), { Lean: -8 }, index, core, both])
+    const other = written(out => {
+        out.describe("Lean", { base: "sint8" })
+        out.copy(record)
+        for (const key of ["Lean", "Core", [0, 0]]) out.write("record", new Map([[key, 5]]))
+    })
+    assert.deepEqual(read(other, { only: "record" }), [both, { Lean: 5 }, { Core: 5 }, { Lean: 5 }])
+})
+
+test("developer fields that can't be described", () => {
+    const begin = out => out.write("record", { heart_rate: 60 }), wanted = written(begin)
+    const [bare] = gazhdor.messages(records([0x60, 0, 0, 20, 0, 0, 1, 0, 1, 0, 0, 5]))
+    assert.deepEqual(read(written(out => out.copy(bare))), [{ dev_0_0: new Uint8Array([5]) }])
+    const made = written(out => {
+        out.describe("Core", { base: "uint8" })
+        const error = thrown(NotDescribed, () => out.copy(bare))
+        assert.deepEqual([error.field, error.message], ["dev_0_0", "the developer field dev_0_0 isn't described where it comes from, and is in this file"])
+    })
+    assert.deepEqual([...gazhdor.messages(made)].map(({ number }) => number), [207, 206])
+    for (const name of ["n".repeat(255), "a\nb", "\x7f"]) {
+        const field = new Writer(gazhdor).describe("x", { base: "uint8" }), odd = Object.assign(Object.create(Object.getPrototypeOf(field)), field, { name })
+        const found = written(out => {
+            begin(out)
+            const error = thrown(NotDescribed, () => out.define("record", [odd]).write(new Map([[[0, 0], 1]])))
+            assert.match(error.message, /dev_0_0 can't be described/)
+        })
+        assert.deepEqual(found, wanted)
+    }
+})
+
 test("messages are copied with their definitions and descriptions", async () => {
     for (const [name, bytes] of Object.entries(await allFiles())) {
         const messages = [...gazhdor.messages(bytes)]
@@ -89,6 +136,37 @@ test("messages are copied with their definitions and descriptions", async () => 
         assert.deepEqual(read(copy), messages.map(message => ({ ...message.toObject() })), name)
         assert.deepEqual([...gazhdor.messages(copy)].map(({ seconds }) => seconds), messages.map(({ seconds }) => seconds), name)
     }
+})
+
+test("what is accumulated is told the same where messages are left out", () => {
+    const below = random(12), sums = [below(4096), below(256), below(65536)], told = [], out = new Writer(gazhdor)
+    const record = out.define("record", ["timestamp", [8, "byte", 3], [18, "uint8"], [28, "uint16"]])
+    for (let k = 0; k < 300; k++) {
+        const packed = (sums[0] & 0xFFF) * 4096 + 300, counts = [sums[1] % 256, sums[2] % 65536]
+        const [cycles, power] = [counts[0] < 255 ? counts[0] : null, counts[1] < 65535 ? counts[1] : null]
+        record.write(new Map([[253, TIME + k], [8, Uint8Array.of(packed, packed >> 8, packed >> 16)], [18, cycles], [28, power]]))
+        told.push([TIME + k, sums[0] / 16, cycles === null ? null : sums[1], power === null ? null : sums[2]])
+        for (const [at, most] of [4096, 100, 30000].entries()) sums[at] += below(most)
+    }
+    const ride = out.finish(), messages = [...gazhdor.messages(ride)]
+    const see = (bytes, wanted) => {
+        const found = [...gazhdor.messages(bytes)]
+        assert.equal(found.length, wanted.length)
+        for (const [k, message] of found.entries()) {
+            const [time, metres, ...counts] = wanted[k]
+            assert.deepEqual([message.seconds, message.get(19) ?? message.totalCycles, message.get(29) ?? message.accumulatedPower], [time, ...counts])
+            assert.ok(Math.abs(message.distance - metres) < 0.0051, `${k}: ${message.distance}, and not ${metres}`)
+        }
+    }
+    see(ride, told)
+    for (const stays of [k => k % 3 !== 0, k => k > 200, () => below(2) === 1, () => true]) {
+        const kept = [...messages.keys()].filter(stays), copy = new Writer(gazhdor)
+        for (const k of kept) copy.copy(messages[k])
+        see(copy.finish(), kept.map(k => told[k]))
+    }
+    const same = new Writer(gazhdor)
+    for (const message of messages) same.copy(message)
+    assert.deepEqual([...gazhdor.messages(same.finish())].map(message => message.fields.length), messages.map(() => 4))
 })
 
 test("a message with other values, and with more fields", () => {

@@ -34,6 +34,6 @@ BLOCK_REASONS = (
     ("Files", "begins one file more than a chain may have"),
     ("Full", "is a message of 255 fields that needs a timestamp"),
     ("Time", "is a message that needs a timestamp, and whose time is the number that stands for none"),
-    ("Described", "is a message of which a developer field has another base type, name or unit in this file, or none"),
+    ("Described", "is a message of which a developer field can't be described with its base type, name and unit"),
     ("TooLong", "would make the data of its file longer than a file may have"),
 )

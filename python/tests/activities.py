@@ -25,6 +25,22 @@ def activity(seed):
     return Activity(seed).data
 
 
+def strayed(seed):
+    """The bytes of a ride, and the time and the sixteenths of a metre of each of its records: a reader accumulates these,
+    and some records have times of elsewhere."""
+    r, sink, told = random.Random(seed), io.BytesIO(), []
+    with gazhdor.Writer(sink, gazhdor.EXTRA) as out:
+        out.write("file_id", type=4)
+        distance = r.randrange(4096)
+        for time in range(START, START + 40):
+            packed = ((distance & 0xFFF) << 12 | 300).to_bytes(3, "little")
+            stray = r.choice((-START, -900, 900)) if r.random() < 0.2 else 0
+            told.append((time + stray, distance))
+            out.write("record", timestamp=time + stray, compressed_speed_distance=packed)
+            distance += r.randrange(4096)
+    return sink.getvalue(), told
+
+
 class Activity:
     """An activity in the making: where it is in time and in metres, and what it has so far."""
 

@@ -66,3 +66,28 @@ def told(message):
     """What a message tells; one whose time was in its header may have it as a timestamp."""
     fields = [(f.number, f.developer, f.name, f.unit, f.base, repr(f.raw)) for f in message.fields]
     return message.number, message.time, [field for field in fields if field[:2] != (253, None)]
+
+
+_WHOLE = (5, 19, 29)  # the fields of a record that have whole what a reader accumulates
+
+
+def amounts(message):
+    """Distance, cycles and power of a record: by their fields, or as a reader accumulates them, a distance in whole
+    centimetres. None where the field is there without a value, and of a type that hasn't room for each."""
+    fields = {field.number: field for field in reversed(message.fields) if field.developer is None}
+    metres = message.distance if message.get(5) is None else None
+    sums = (metres and int(100 * metres + 0.5) / 100, message.total_cycles, message.accumulated_power)
+
+    def has_room(key):
+        return key not in fields or fields[key].base == 0x86 and isinstance(fields[key].raw, int)
+
+    return [repr(message.get(key) if message.get(key) is not None else value if has_room(key) else None)
+        for key, value in zip(_WHOLE, sums)]
+
+
+def read(message):
+    """What a reader is told of a message, which may have got a timestamp, and its sums whole."""
+    number, time, fields = told(message)
+    if number != 20:
+        return number, time, fields, None
+    return number, time, [field for field in fields if field[0] not in _WHOLE or field[1] is not None], amounts(message)

@@ -5,7 +5,7 @@ import unittest
 
 from support import BYTES, bytes_at, recording
 from fits import SMALL, any_file
-from made import copied, through_values, written
+from made import amounts, copied, read, through_values, written
 
 import gazhdor
 
@@ -46,16 +46,7 @@ class BothWays(unittest.TestCase):
                 told)
 
 
-def raws(message):
-    return message.number, [(field.number, field.developer, repr(field.raw)) for field in message.fields]
-
-
 class Mixed(unittest.TestCase):
-    def kept(self, message):
-        """What has to come back of a message that is copied; the time of a compressed header may become a timestamp."""
-        number, fields = raws(message)
-        return number, [field for field in fields if field[0] != 253 or field[1] is not None], message.time
-
     def test_all_at_once(self):
         """Messages of several files, with their definition messages and without, some left out, between messages that
         are written from values by definitions of all local message types."""
@@ -77,7 +68,7 @@ class Mixed(unittest.TestCase):
                     elif isinstance(event, gazhdor.Message):
                         if event.number == 206 or r.random() < 0.6:
                             out.copy(event)
-                            wanted.append(self.kept(event))
+                            wanted.append(read(event))
                     elif isinstance(event, gazhdor.DefinitionMessage) and r.random() < 0.5 and event.number != 206:
                         out.copy(event)
                     if r.random() < 0.3:
@@ -87,9 +78,56 @@ class Mixed(unittest.TestCase):
                         if own:
                             which = r.choice(own)
                             which.write({7: len(wanted) % 60000})
-                            wanted.append((5000 + own.index(which), [(7, None, repr(len(wanted) % 60000))], None))
-            found = [self.kept(message) for message in gazhdor.messages(sink.getvalue())]
+                            number, value = 5000 + own.index(which), len(wanted) % 60000
+                            wanted.append((number, None, [(7, None, None, None, 132, repr(value))], None))
+            found = [read(message) for message in gazhdor.messages(sink.getvalue())]
             self.assertEqual(found, wanted)
+
+
+class Accumulated(unittest.TestCase):
+    """Rides whose distance, cycles and power a reader accumulates: what is copied of them is told the same, by
+    arithmetic, whichever messages are left out."""
+
+    def ride(self, r, start):
+        """The bytes of a ride, and the time, metres, cycles and watts of each of its records."""
+        sums, told, sink = [r.randrange(4096), r.randrange(256), r.randrange(65536)], [], io.BytesIO()
+        with gazhdor.Writer(sink) as out:
+            fields = ["timestamp", (8, "byte", 3), (18, "uint8"), (28, "uint16")]
+            record = out.define("record", fields)
+            for time in range(start, start + 30):
+                packed = ((sums[0] & 0xFFF) << 12 | 300).to_bytes(3, "little")
+                cycles, power = (value % of for value, of in zip(sums[1:], (256, 65536)))
+                has = cycles < 255, power < 65535
+                record.write({253: time, 8: packed, 18: cycles if has[0] else None, 28: power if has[1] else None})
+                told.append((time, sums[0] / 16, *(value if is_there else None for value, is_there in zip(sums[1:], has))))
+                sums = [value + r.randrange(most) for value, most in zip(sums, (4096, 100, 30000))]
+        return sink.getvalue(), told
+
+    def see(self, data, told):
+        records = list(gazhdor.messages(data, only="record"))
+        self.assertEqual([m.seconds for m in records], [time for time, *_ in told])
+        for message, (_, metres, *counts) in zip(records, told):
+            self.assertLessEqual(abs(message.distance - metres), 0.0051)
+            self.assertEqual(amounts(message)[1:], list(map(repr, counts)))
+
+    def test_left_out(self):
+        r = random.Random(12)
+        for _ in range(50):
+            data, told = self.ride(r, 1147937400)
+            self.see(data, told)
+            kept = sorted(r.sample(range(len(told)), r.randrange(1, len(told))))
+            records = list(gazhdor.messages(data))
+            self.see(written(*(lambda out, k=k: out.copy(records[k]) for k in kept)), [told[k] for k in kept])
+
+    def test_by_turns(self):
+        """Records of two rides by turns, in one file; and what isn't changed keeps its bytes."""
+        r = random.Random(13)
+        for _ in range(20):
+            (one, ones), (two, others) = self.ride(r, 1147937400), self.ride(r, 1147937400)
+            pairs = zip(gazhdor.messages(one), gazhdor.messages(two), ones, others)
+            chosen = [(a, told) if r.random() < 0.5 else (b, other) for a, b, told, other in pairs]
+            self.see(written(*(lambda out, m=m: out.copy(m) for m, _ in chosen)), [told for _, told in chosen])
+            self.assertEqual(copied(one + two), one + two)
 
 
 if __name__ == "__main__":

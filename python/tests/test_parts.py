@@ -10,7 +10,7 @@ import random
 import unittest
 
 from support import RIDE, bytes_at, known, recording
-from activities import activity
+from activities import START, activity, strayed
 from fits import any_file
 
 import gazhdor
@@ -218,6 +218,38 @@ class Activity(unittest.TestCase):
         for index, share in shares.items():
             if told[index]["total_elapsed_time"] > 1:
                 self.assertEqual(share, told[index]["total_calories"])
+
+
+class Strayed(unittest.TestCase):
+    """Parts of rides of which some records have times of elsewhere: those that stay tell their distances from the first
+    one on, by arithmetic, and the session tells the same."""
+
+    def see(self, seed):
+        (data, told), r = strayed(seed), random.Random(seed)
+        times = sorted(r.sample(range(START, START + 40), 2))
+        begin, end = r.choice(((None, times[1]), (times[0], None), times))
+        kept = [(time, metres / 16) for time, metres in told
+            if (begin is None or time >= begin) and (end is None or time <= end)]
+        first = 0 if kept[0] == (told[0][0], told[0][1] / 16) else kept[0][1]
+        made = part(data, begin, end)
+        records, (session,) = of(made, "record"), of(made, "session")
+        self.assertEqual([m.seconds for m in records], [time for time, _ in kept])
+        for message, (_, metres) in zip(records, kept):
+            self.assertAlmostEqual(message.distance, metres - first, delta=0.0051)
+        self.assertAlmostEqual(session["total_distance"], max(0, kept[-1][1] - kept[0][1]), delta=0.0051)
+
+    def test_times_of_elsewhere(self):
+        for seed in range(100):
+            with self.subTest(seed):
+                self.see(seed)
+
+    def test_dropped(self):
+        """A sum isn't written into a field that is emptied, also where it is accumulated otherwise than before."""
+        for drop in ("distance", "record.5", "20.distance"):
+            for seed in range(10):
+                sink = io.BytesIO()
+                gazhdor.edit(strayed(seed)[0], sink, end=START + 30, drop=drop)
+                self.assertEqual({m.get(5) for m in of(sink.getvalue(), "record")}, {None})
 
 
 class Recording(unittest.TestCase):

@@ -11,7 +11,7 @@ import unittest
 from fits import (
     BYTE, DESCRIBE, FLOAT32, SMALL, UINT16, UINT32, UINT8, any_file, checksum, define, describe, fit, packed,
 )
-from made import told, written
+from made import read, told, written
 
 import gazhdor
 
@@ -109,6 +109,40 @@ class Developers(unittest.TestCase):
         self.assertEqual([dict(m) for m in found if m.number == 20],
             [{"Count": 77}, {"Ratio": 1.5}, {"Count": 77}, {"Ratio": 1.5}])
 
+    def test_described_with_messages(self):
+        """What a message brings along is described once in a file, can be named from then on, and has its number."""
+        _, message = self.described(UINT8, b"Strain", b"N", b"\5")
+        data = written(lambda out: out.copy(message), lambda out: out.copy(message),
+            lambda out: out.write("record", {"Strain": 6}), lambda out: out.write("record", {(0, 0): 7}),
+            lambda out: out.write("record", {out.describe("Lean", "deg", "sint8"): -8}),
+            lambda out: out.file(), lambda out: out.copy(message))
+        found = [(m.file, m.number, dict(m)) for m in gazhdor.messages(data)]
+        index = {"developer_data_index": 0}
+        keys = "field_definition_number", "fit_base_type_id", "field_name", "units"
+        told = [{**index, **dict(zip(keys, values))} for values in ((0, 2, "Strain", "N"), (1, 1, "Lean", "deg"))]
+        self.assertEqual(found, [(1, 207, index), (1, 206, told[0]), *((1, 20, {"Strain": k}) for k in (5, 5, 6, 7)),
+            (1, 206, told[1]), (1, 20, {"Lean": -8}), (2, 207, index), (2, 206, told[0]), (2, 20, {"Strain": 5})])
+
+    def test_named_before(self):
+        """What a file has a name for keeps it where messages come that have it otherwise."""
+        _, message = self.described(UINT8, b"Strain", b"N", b"\5")
+        data = written(lambda out: out.describe("Lean", "deg", "sint8"), lambda out: out.copy(message),
+            lambda out: out.write("record", {"Lean": -8}), lambda out: out.write("record", {"Strain": 6}),
+            lambda out: out.write("record", {(0, 0): -9}))
+        self.assertEqual([dict(m) for m in gazhdor.messages(data, only="record")],
+            [{"Strain": 5}, {"Lean": -8}, {"Strain": 6}, {"Lean": -9}])
+
+    def test_unwritten(self):
+        """One whose name or unit no description can have isn't written, and nothing of it."""
+        wanted = written(lambda out: out.write("record", heart_rate=60))
+        for name, unit in ((255 * "n", ""), ("Lean", 300 * "u"), ("a\nb", ""), ("Lean", "\x7f")):
+            def step(out, of=gazhdor.DeveloperField(0, 9, name, unit, UINT8)):
+                out.write("record", heart_rate=60)
+                with self.assertRaisesRegex(ValueError, "dev_0_9 can't be described"):
+                    out.define("record", [of]).write({of: 1})
+
+            self.assertEqual(written(step), wanted)
+
     def test_undescribed(self):
         """One that nothing describes isn't written where it would be read as another one."""
         other, _ = self.described(UINT8, b"Strain", b"N", b"\5")
@@ -138,11 +172,11 @@ class Developers(unittest.TestCase):
                         continue
                     try:
                         out.copy(message)
-                        kept.append(told(message))
+                        kept.append(read(message))
                     except ValueError as error:
                         self.assertIn("isn't described", str(error))
                         refused += 1
-            found = [told(m) for m in gazhdor.messages(sink.getvalue()) if m.number not in (206, 207)]
+            found = [read(m) for m in gazhdor.messages(sink.getvalue()) if m.number not in (206, 207)]
             self.assertEqual(found, kept)
             count += len(kept)
         self.assertLess(refused, count // 5)

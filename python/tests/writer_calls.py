@@ -67,8 +67,9 @@ class OfLibrary:
     """A writer of the library."""
 
     def __init__(self):
-        # which growth of memory the next call is refused; of how many messages the amounts are read as in their blocks
-        self.at, self.refused, self.told = ctypes.c_void_p(), 0, 0
+        # which growth of memory the next call is refused; of how many messages the amounts are read as in their blocks,
+        # of all and of the last call
+        self.at, self.refused, self.told, self.last_told = ctypes.c_void_p(), 0, 0, 0
 
     def answer(self, name, *words):
         library().refuse_growth(self.refused)
@@ -76,7 +77,7 @@ class OfLibrary:
         library().refuse_growth(0)
         self.refused = 0
         assert answer.files <= answer.row
-        self.told += answer.files
+        self.told, self.last_told = self.told + answer.files, answer.files
         return Answer(answer.status, answer.reason, answer.place, answer.row, answer.column)
 
     def call(self, name, *parts):
@@ -112,6 +113,9 @@ class Both:
 
     def __init__(self):
         self.writer, self.may_be, self.answers = OfLibrary(), [], []
+        # of each file, and each message that was put into it: the amounts that its block says, and whether they are
+        # read so; None where no answer tells it
+        self.said = []
 
     def keep(self, found, may_be, wanted):
         """Goes on with the writers that answer as the library does."""
@@ -123,7 +127,7 @@ class Both:
     def open(self):
         found = self.writer.call("open")
         self.answers.append(found)
-        self.may_be = [Writer()] if found == GOOD else []
+        self.may_be, self.said = [Writer()] if found == GOOD else [], []
         if found not in (GOOD, Answer(n.NO_MEMORY)):
             raise Differs(f"open: {found}")
 
@@ -142,17 +146,28 @@ class Both:
         if not self.is_closed(found) and found != Answer(n.NO_MEMORY):
             answers = [(getattr(writer, name)(block), writer) for writer in self.may_be]
             self.keep(found, [writer for answer, writer in answers if answer == found], answers)
+            if name == "file" and found == GOOD:
+                self.said.append([])
 
     def messages(self, definition, blocks):
         found = self.writer.call("messages", definition, blocks)
         if self.is_closed(found):
             return
+        self.note(definition, blocks, found.row)
         if found.status == n.NO_MEMORY and (found.reason, found.column) == (0, 0):
             self.keep(found, [after for writer in self.may_be for after in writer_model.after_refused_messages(
                 writer, definition, blocks, found.row, found.place)], "more or fewer were put")
             return
         answers = [(writer.messages(definition, blocks), writer) for writer in self.may_be]
         self.keep(found, [writer for answer, writer in answers if answer == found], answers)
+
+    def note(self, definition, blocks, count):
+        """Keeps what the blocks of the first messages of a run say of their amounts."""
+        at, told = 0, self.writer.last_told
+        for k in range(count):
+            block = writer_model.next_block(blocks, at)
+            at += len(block)
+            self.said[-1].append((writer_model.amounts_in(definition, block), k < told if k <= told else None))
 
     def finish(self):
         """The bytes of the chain; None where memory was refused."""
@@ -166,7 +181,7 @@ class Both:
         answers = [(writer.finish(), writer) for writer in self.may_be]
         self.keep((found, data), [writer for answer, writer in answers if answer == (found, data)],
             [answer for answer, _ in answers])
-        need_read_as_put(data, self.may_be[0].files)
+        need_read_as_put(data, self.may_be[0].files, self.said)
         return data
 
 
@@ -194,20 +209,22 @@ def blocks_of(data):
     return taken(text)
 
 
-def readings_of_blocks(data):
-    """What gazhdor_messages tells of the messages of a chain, file by file."""
-    blocks, at, files, forms = blocks_of(data), 0, [], {}
+def told_by_blocks(data):
+    """What gazhdor_messages tells of the messages of a chain, file by file: a reading, and the amounts."""
+    blocks, at, files, definitions = blocks_of(data), 0, [], {}
     while at < len(blocks):
         block = cut(blocks, at)
         at += len(block)
         if block[n.AT_KIND] == n.FILE_HEADER:
             files.append([])
         elif block[n.AT_KIND] == n.DEFINITION:
-            forms[n_of(block)] = writer_model.form_in(block)
+            definitions[n_of(block)] = block, writer_model.form_in(block)
         elif block[n.AT_KIND] == n.MESSAGE:
+            definition, form = definitions[n_of(block)]
             time = int.from_bytes(block[n.AT_MESSAGE_TIME : n.AT_MESSAGE_TIME + 4], "little")
-            reading = writer_model.said_by(forms[n_of(block)], block)
-            files[-1].append(reading._replace(time=time if block[n.AT_MESSAGE_BITS] & n.TOLD_TIME else None))
+            reading = writer_model.said_by(form, block)
+            reading = reading._replace(time=time if block[n.AT_MESSAGE_BITS] & n.TOLD_TIME else None)
+            files[-1].append((reading, writer_model.amounts_in(definition, block)))
     return files
 
 
@@ -216,20 +233,26 @@ def n_of(block):
     return block[n.AT_DEFINITION_NUMBER : n.AT_DEFINITION_NUMBER + 8]
 
 
-def need_read_as_put(data, files):
-    """Raises where what is read of a chain, by reader_model.py and by gazhdor_messages, isn't what was put."""
+def need_read_as_put(data, files, said):
+    """Raises where what is read of a chain, by reader_model.py and by gazhdor_messages, isn't what was put, or of the
+    amounts not what was answered."""
     if not data:
         return
-    chain, told = reader_model.read_chain(data), readings_of_blocks(data)
-    if not len(chain) == len(told) == len(files):
+    chain, told = reader_model.read_chain(data), told_by_blocks(data)
+    if not len(chain) == len(told) == len(files) == len(said):
         raise Differs(f"{len(files)} files were put, {len(chain)} and {len(told)} are read")
-    for found, blocks, file in zip(chain, told, files):
+    for found, messages, file, amounts in zip(chain, told, files, said):
         size, protocol, profile, checksum, more = found.header
         wanted = file.header
         if (size, protocol, profile, more) != (wanted.size, wanted.protocol, wanted.profile, wanted.more) \
                 or wanted.sum == n.NO_SUM and size != 12 or wanted.sum == n.ZERO_SUM and checksum != b"\0\0":
             raise Differs(f"the header {found.header}")
+        blocks = [reading for reading, _ in messages]
         if found.readings != blocks:
             raise Differs("the reader in Python and gazhdor_messages tell different messages")
         if len(blocks) != len(file.puts) or not all(map(is_read_as, file.puts, blocks)):
             raise Differs(f"what is read isn't what was put: {blocks} {file.puts}")
+        read = [of for put, (_, of) in zip(file.puts, messages) if put is not None]
+        if len(read) != len(amounts) or any((one == of) != is_read
+                for one, (of, is_read) in zip(read, amounts) if is_read is not None):
+            raise Differs(f"the amounts aren't read as was answered: {read} {amounts}")

@@ -9,14 +9,17 @@ from block_model import (
 )
 from gazhdor import _numbers as n
 from reader_model import (
-    DEVELOPER_DATA_ID, Definition, Message, NO_TIME, Reading, Records, STRING, TIMESTAMP, UINT32, time_of, turned,
+    DEVELOPER_DATA_ID, Definition, Message, NO_TIME, Reading, Records, STRING, TIMESTAMP, UINT32, is_printable, time_of,
+    turned,
 )
 
 NO_FILE, FILES, FULL, TIME, DESCRIBED, TOO_LONG = range(11, 17)
-# Whether a writer itself describes developer fields that aren't described as they are to be read.
-DESCRIBES = False
 # of a developer field without a description
 BARE, UINT8 = (BYTE, b"", b""), 2
+# Local message types of messages that describe, where these are free, and how many bytes a text of theirs has at most.
+LOCAL_OF_INDEX, LOCAL_OF_DESCRIPTION, MOST_TEXT = 14, 15, 254
+AMOUNTS = ((n.TOLD_SPEED, n.AT_MESSAGE_SPEED), (n.TOLD_DISTANCE, n.AT_MESSAGE_DISTANCE),
+    (n.TOLD_CYCLES, n.AT_MESSAGE_CYCLES), (n.TOLD_POWER, n.AT_MESSAGE_POWER))
 
 # What the block of a definition says: the definition message, of its developer fields (base type, name, unit), and of
 # each field and developer field (place, bytes) where a message's block has its items.
@@ -92,6 +95,12 @@ def header_time_in(block):
     return number(block, n.AT_MESSAGE_HEADER_TIME, 4) if block[n.AT_MESSAGE_BITS] & n.TOLD_HEADER_TIME else None
 
 
+def amounts_in(definition, block):
+    """The speed, distance, cycles and power that a message's block says by that of its definition."""
+    is_counted = definition[n.AT_DEFINITION_BITS] & n.IS_COUNTED and len(block) >= n.AT_MESSAGE_COUNTED_ITEMS
+    return tuple(number(block, at, 8) if is_counted and block[n.AT_MESSAGE_BITS] & bit else None for bit, at in AMOUNTS)
+
+
 def items_in(form, block):
     """The bytes of each field, and of each developer field."""
     found = tuple(block[place : place + size] for place, size in form.slots)
@@ -136,52 +145,27 @@ def spelled_message(known, message):
     return bytes([head]) + b"".join(items)
 
 
-def describing(records, form, local):
-    """The records that come before a definition message of this form, so that its developer fields get their base
-    types, names and units; the reason where none do."""
-    developers, described = form.definition.developers, form.described
-    if records.described_now(developers) == described:
-        return []
-    need(DESCRIBES and can_describe(records, developers, described), DESCRIBED)
-    after, made = records.copy(), []
-    for (number, size, index), told in zip(developers, described):
-        if after.described_now([(number, size, index)]) != (told,):
-            added = description(local, index, number, told)
-            if index not in after.indexes:
-                added = message_of(local, DEVELOPER_DATA_ID, [(3, UINT8, bytes([index]))]) + added
-            for record in added:
-                after.add(record)
-            made += added
-    return made
+def can_be_read_back(told):
+    """Whether a description can give a developer field this base type, name and unit."""
+    return told != BARE and all(not text or is_printable(text) and len(text) <= MOST_TEXT for text in told[1:])
 
 
-def can_describe(records, developers, described):
-    """Whether descriptions can make a definition message be read so: their texts have room, those alone would, and what
-    has no description has none here."""
-    alone = Records()
-    for developer, told in zip(developers, described):
-        if told == BARE:
-            if records.described_now([developer]) != (told,):
-                return False
-        elif max(map(len, told[1:])) > 254:
-            return False
-        else:
-            for record in description(0, developer[2], developer[0], told):
-                alone.add(record)
-    return alone.described_now(developers) == described
+def index_form(index):
+    """The form and the items of a message that says that there is a developer data index."""
+    return plain_form(LOCAL_OF_INDEX, DEVELOPER_DATA_ID, [(3, UINT8, bytes([index]))])
 
 
-def description(local, index, number, told):
+def description_form(index, number, told):
+    """The same of one that describes a developer field."""
     code, name, unit = told
     fields = [(0, UINT8, bytes([index])), (1, UINT8, bytes([number])), (2, UINT8, bytes([code]))]
     fields += [(of, STRING, text + b"\0") for of, text in ((3, name), (8, unit)) if text]
-    return message_of(local, DESCRIPTION, fields)
+    return plain_form(LOCAL_OF_DESCRIPTION, DESCRIPTION, fields)
 
 
-def message_of(local, message, fields):
-    """A definition message of fields (number, base type, bytes), and its message."""
+def plain_form(local, message, fields):
     definition = Definition(local, 0, 0, message, tuple((of, len(data), code) for of, code, data in fields), None)
-    return [definition, Message(local, None, tuple(data for _, _, data in fields), ())]
+    return Form(definition, (), ()), (tuple(data for _, _, data in fields), ())
 
 
 class OpenFile:
@@ -244,19 +228,57 @@ class OpenFile:
         free = [local for local in names if local not in self.records.known]
         return own if own in free else free[0] if free else min(names, key=self.used.get)
 
-    def planned(self, form, block):
-        """The records with which a message is put: definition messages that it needs, and last itself."""
-        keeps = self.keeps_offset(block)
-        form = self.needed(form, block, keeps)
-        names, own, before = range(4 if keeps else 16), form.definition.local, []
+    def placed(self, form, names, offset, items):
+        """The records with which a message of a form is put, whose local message type is one of these: a definition
+        message, where none says the same, and the message."""
         same = [local for local in names if self.says_same(local, form)]
+        own, before = form.definition.local, []
         if same:
             local = own if own in same else same[0]
         else:
             local = self.local_for(own, names)
-            before = [*describing(self.records, form, local), form.definition._replace(local=local)]
+            before = [form.definition._replace(local=local)]
+        return [*before, Message(local, offset, *items)]
+
+    def described(self, form, names):
+        """The records that come before a message of this form, so that its developer fields get their base types, names
+        and units; the reason where none do."""
+        wanted = list(zip(form.definition.developers or (), form.described))
+        if any(self.says_same(local, form) for local in names) or self.gives(wanted):
+            return []
+        need(all((self.gives([one]) or can_be_read_back(one[1])) and all(one[1] == other[1] for other in wanted
+            if one[0][0] == other[0][0] and one[0][2] == other[0][2]) for one in wanted), DESCRIBED)
+        file, made = self.copy(), []
+        for (number, size, index), told in wanted:
+            if not file.gives([((number, size, index), told)]):
+                if index not in file.records.indexes:
+                    made += file.put(index_form(index))
+                made += file.put(description_form(index, number, told))
+        return made
+
+    def gives(self, wanted):
+        """Whether a definition message that came now would give developer fields these base types, names and units."""
+        return self.records.described_now([developer for developer, _ in wanted]) == tuple(told for _, told in wanted)
+
+    def put(self, plain):
+        """Puts a message of a form and items. Returns its records."""
+        form, items = plain
+        made = self.placed(form, range(16), None, items)
+        for record in made:
+            self.add(record)
+        return made
+
+    def planned(self, form, block):
+        """The records with which a message is put: those that describe its developer fields and definition messages,
+        where it needs them, and last itself."""
+        keeps = self.keeps_offset(block)
+        form, names = self.needed(form, block, keeps), range(4 if keeps else 16)
         offset = block[n.AT_MESSAGE_OFFSET] if keeps else None
-        return [*before, Message(local, offset, *items_in(form, block))]
+        made = self.described(form, names)
+        after = self.copy() if made else self
+        for record in made:
+            after.add(record)
+        return made + after.placed(form, names, offset, items_in(form, block))
 
     def bytes(self):
         header = self.header
@@ -353,17 +375,21 @@ def after_refused_messages(writer, definition, blocks, count, place):
     at = 0
     for _ in range(count):
         at += number(blocks, at, 4)
-    found = [between] if at == place else []
+    if at != place:
+        return []
     try:
         block = next_block(blocks, place)
         form = form_in(definition)
         need_message(form, block)
         before = between.current.planned(form, block)[:-1]
     except (Fault, AttributeError):
-        return found
-    for record in before if found else []:
-        found.append(found[-1].copy())
-        found[-1].current.leave(record)
+        return [between]
+    found, whole = [between], between
+    for record in before:
+        left, whole = whole.copy(), whole.copy()
+        left.current.leave(record)
+        whole.current.add(record)
+        found.append(left if isinstance(record, Definition) else whole)
     return found
 
 

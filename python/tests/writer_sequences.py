@@ -209,6 +209,7 @@ class Sequence:
         block = bytearray(r.randbytes(made.length) if r.random() < 0.5 else made.length)
         offset = r.choice((255, 255, time & 31, time & 31, time & 31, r.randrange(32)))
         bits = r.choice((0, n.TOLD_TIME)) | (n.TOLD_HEADER_TIME if r.random() < 0.8 else 0)
+        bits |= r.randrange(64) if r.random() < 0.1 else 0
         block[: n.AT_MESSAGE_ITEMS] = message_head(len(block), bits, r.randrange(256), offset, time & 0xFFFFFFFF)
         described = self.description(made) if made.message == 206 else [b""] * len(made.fields)
         for field, place, data in zip(made.fields, made.places, described):

@@ -3,6 +3,7 @@ use crate::definition::Definition;
 use crate::field::Value;
 use crate::names::Names;
 use crate::put_fault::WriteFault;
+use crate::value_error::Unfit;
 use crate::writer::Writer;
 use std::io::Write;
 
@@ -16,15 +17,30 @@ pub(crate) fn write<W: Write>(
     message: &str,
     values: &Values,
 ) -> Result<(), WriteFault> {
-    let fits = |&&(name, value): &&(&'static str, Value<'static>)| {
-        Definition::by(names, message, &[name]).and_then(|of| of.message().with(name, value).map(drop)).is_ok()
-    };
-    let fitting: Vec<_> = values.iter().filter(fits).collect();
-    let fields: Vec<_> = fitting.iter().map(|(name, _)| *name).collect();
-    let definition = Definition::by(names, message, &fields)?;
-    let mut draft = definition.message();
-    for (name, value) in fitting {
-        draft.set(*name, *value)?;
+    let mut fitting: Vec<&(&str, Value<'_>)> = values.iter().collect();
+    loop {
+        let (definition, known) = defined(names, message, &fitting)?;
+        let mut draft = definition.message();
+        let fits: Vec<_> = known.into_iter().filter(|(name, value)| draft.set(*name, *value).is_ok()).collect();
+        if fits.len() == usize::from(definition.fields().count()) {
+            return Ok(out.write(&draft)?);
+        }
+        fitting = fits;
     }
-    Ok(out.write(&draft)?)
+}
+
+/// The definition of a message with the fields of values, and those of them that it has.
+fn defined<'n, 'v>(
+    names: &'n Names,
+    message: &str,
+    values: &[&'v (&'static str, Value<'static>)],
+) -> Result<(Definition<'n>, Vec<&'v (&'static str, Value<'static>)>), Unfit> {
+    let (mut made, mut known) = (Definition::by(names, message, &[])?, Vec::with_capacity(values.len()));
+    for value in values {
+        if let Ok(more) = made.clone().with(value.0, 1) {
+            made = more;
+            known.push(*value);
+        }
+    }
+    Ok((made, known))
 }

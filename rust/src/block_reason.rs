@@ -31,7 +31,7 @@ pub enum BlockReason {
     Full,
     /// The block is a message that needs a timestamp, and whose time is the number that stands for none.
     Time,
-    /// The block is a message of which a developer field has another base type, name or unit in this file, or none.
+    /// The block is a message of which a developer field can't be described with its base type, name and unit.
     Described,
     /// The block would make the data of its file longer than a file may have.
     TooLong,
@@ -85,7 +85,7 @@ impl BlockReason {
                 "the block is a message that needs a timestamp, and whose time is the number that stands for none"
             }
             BlockReason::Described => {
-                "the block is a message of which a developer field has another base type, name or unit in this file, or none"
+                "the block is a message of which a developer field can't be described with its base type, name and unit"
             }
             BlockReason::TooLong => "the block would make the data of its file longer than a file may have",
         }

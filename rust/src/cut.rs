@@ -74,7 +74,8 @@ pub(crate) struct Part {
     /// The time of the last record that was taken in, and of the last message that was asked for.
     record_time: Option<i64>,
     time: Option<i64>,
-    /// Whether a record was left out.
+    /// Whether a record stays, and whether one before it was left out.
+    has_record: bool,
     is_later: bool,
     pub(crate) odometer: Option<Odometer>,
 }
@@ -95,6 +96,7 @@ impl Part {
             wholes: None,
             record_time: None,
             time: None,
+            has_record: false,
             is_later: false,
             odometer: None,
         };
@@ -281,12 +283,13 @@ impl Part {
         let start = whole_of(message, "start_time");
         let stays = |time: i64| self.span.has(time) && start.map_or(true, |start| self.span.has(start));
         if self.time.map_or(true, stays) {
+            self.has_record |= number == RECORD;
             if number == RECORD && self.is_later && self.odometer.is_none() {
                 self.odometer = Some(Odometer::new(0.0)); // distances begin at 0 again
             }
             return Kept::AsItIs;
         }
-        self.is_later |= number == RECORD;
+        self.is_later |= number == RECORD && !self.has_record;
         Kept::Left
     }
 

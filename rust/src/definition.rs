@@ -20,7 +20,6 @@ use std::borrow::Cow;
 use std::fmt::{self, Debug, Formatter};
 
 const MOST: usize = 255;
-const TIMESTAMP: u8 = 253;
 
 /// Which fields a message has, and how they stand in the file: one that a program makes, or one that was read.
 ///
@@ -38,8 +37,6 @@ pub struct Definition<'a> {
     /// Its block, of 40 bytes at least.
     block: Cow<'a, [u8]>,
     names: Option<&'a Names>,
-    /// Whether a writer chooses its local message type.
-    is_free: bool,
 }
 
 impl<'a> Definition<'a> {
@@ -77,12 +74,12 @@ impl<'a> Definition<'a> {
         let length = block.len() as u32;
         put(&mut block, AT_LENGTH, &length.to_le_bytes());
         put(&mut block, AT_DEFINITION_MESSAGE_LENGTH, &(AT_MESSAGE_ITEMS as u32).to_le_bytes());
-        Definition { block: Cow::Owned(block), names: None, is_free: true }
+        Definition { block: Cow::Owned(block), names: None }
     }
 
     /// That of a block of 40 bytes at least.
     pub(crate) fn read(block: &'a [u8], names: Option<&'a Names>) -> Definition<'a> {
-        Definition { block: Cow::Borrowed(block), names, is_free: false }
+        Definition { block: Cow::Borrowed(block), names }
     }
 
     /// The same with a field more, by its name and with its usual base type: of a text that many bytes, of numbers that many.
@@ -111,7 +108,7 @@ impl<'a> Definition<'a> {
         self.with_entry(entry, position)
     }
 
-    /// The same with a developer field more, which the file has to describe before.
+    /// The same with a developer field more, which a writer describes where the file doesn't describe it so.
     ///
     /// # Errors
     ///
@@ -130,7 +127,7 @@ impl<'a> Definition<'a> {
     #[must_use]
     pub fn at(mut self, local: u8) -> Definition<'a> {
         self.block.to_mut()[AT_DEFINITION_LOCAL] = local & 15;
-        Definition { is_free: false, ..self }
+        self
     }
 
     /// The same with numbers in big endian in the file.
@@ -138,13 +135,6 @@ impl<'a> Definition<'a> {
     pub fn big_endian(mut self) -> Definition<'a> {
         self.block.to_mut()[AT_DEFINITION_ARCHITECTURE] = BIG_ENDIAN;
         self
-    }
-
-    /// The same with a timestamp before its fields; none where there is no room for it.
-    pub(crate) fn dated(self) -> Option<Definition<'a>> {
-        let named = profile::field(self.number(), TIMESTAMP);
-        let entry = Entry { number: TIMESTAMP, developer: None, base_type: BaseType::Uint32, items: 1, named };
-        self.with_entry(entry, 0).ok()
     }
 
     /// A message of this definition, in which no field has a value.
@@ -159,7 +149,7 @@ impl<'a> Definition<'a> {
         put(&mut block, AT_MESSAGE_TIME, &NO_TIME.to_le_bytes());
         put(&mut block, AT_MESSAGE_DEFINITION, &eight(&self.block, AT_DEFINITION_NUMBER).to_le_bytes());
         put(&mut block, AT_MESSAGE_HEADER_TIME, &u64::from(NO_TIME).to_le_bytes());
-        let mut made = Draft::new(block, &self.block, self.names, self.is_free);
+        let mut made = Draft::new(block, &self.block, self.names);
         made.clear();
         made
     }

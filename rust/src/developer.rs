@@ -2,20 +2,18 @@
 use crate::base_type::BaseType;
 use crate::definition::Definition;
 use crate::draft::Draft;
-use crate::field::Field;
 use crate::value_error::Unfit;
 
 /// The global message number of descriptions.
-pub(crate) const DESCRIPTION: u16 = 206;
+const DESCRIPTION: u16 = 206;
 
-/// A developer field: what the description of it says, which a file has before the first definition with it.
+/// A developer field: what the description of it says, which a file has before the first definition with it. A writer puts it there.
 ///
 /// ```
 /// use gazhdor::{BaseType, Definition, Developer, Writer};
 ///
 /// let power = Developer { index: 0, number: 2, base_type: BaseType::Uint16, name: "Form power".into(), unit: "watts".into() };
 /// let mut out = Writer::new(Vec::new());
-/// out.describe(&power)?;
 /// let record = Definition::of("record", &["timestamp"])?.with_developer(&power, 1)?;
 /// out.write(&record.message().with("timestamp", 1_000_000_000)?.with("Form power", 300)?)?;
 /// let bytes = out.finish()?;
@@ -38,41 +36,7 @@ pub struct Developer {
 }
 
 impl Developer {
-    pub(crate) fn description(&self) -> Description {
-        let (name, unit) = (self.name.clone(), self.unit.clone());
-        Description { index: self.index, number: self.number, code: self.base_type.code(), name, unit }
-    }
-}
-
-/// What a file says of a developer field, with any code for its base type: a message 206 of the FIT protocol, field_description.
-#[derive(Debug, Clone, PartialEq, Eq)]
-pub(crate) struct Description {
-    index: u8,
-    number: u8,
-    code: u8,
-    name: String,
-    unit: String,
-}
-
-impl Description {
-    /// That of the developer field of a definition that was read.
-    pub(crate) fn of(field: &Field<'_>) -> Description {
-        let text = |text: Option<&str>| text.unwrap_or("").to_string();
-        let (name, unit) = (text(field.name()), text(field.unit()));
-        Description {
-            index: field.developer().unwrap_or(0),
-            number: field.number(),
-            code: field.base_type(),
-            name,
-            unit,
-        }
-    }
-
-    /// Whose field it describes, and which.
-    pub(crate) fn key(&self) -> (u8, u8) {
-        (self.index, self.number)
-    }
-
+    /// That of its description.
     pub(crate) fn definition(&self) -> Result<Definition<'static>, Unfit> {
         // A text ends with a zero where there is room for it.
         let room = |text: &str| (text.len() + 1).min(255) as u8;
@@ -84,8 +48,9 @@ impl Description {
             .with_field(8, BaseType::String, room(&self.unit))
     }
 
+    /// Its description, of that definition.
     pub(crate) fn message<'a>(&self, definition: &'a Definition<'_>) -> Result<Draft<'a>, Unfit> {
-        let made = definition.message().with(0, self.index)?.with(1, self.number)?.with(2, self.code)?;
+        let made = definition.message().with(0, self.index)?.with(1, self.number)?.with(2, self.base_type.code())?;
         made.with(3, self.name.as_str())?.with(8, self.unit.as_str())
     }
 }

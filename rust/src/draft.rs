@@ -95,19 +95,17 @@ pub struct Draft<'a> {
     /// The walk that the definition is of, or 0.
     walk: u64,
     names: Option<&'a Names>,
-    /// Whether a writer chooses its local message type.
-    is_free: bool,
 }
 
 impl<'a> Draft<'a> {
-    pub(crate) fn new(block: Vec<u8>, definition: &'a [u8], names: Option<&'a Names>, is_free: bool) -> Draft<'a> {
-        Draft { block, definition, walk: 0, names, is_free }
+    pub(crate) fn new(block: Vec<u8>, definition: &'a [u8], names: Option<&'a Names>) -> Draft<'a> {
+        Draft { block, definition, walk: 0, names }
     }
 
     /// That of a copy of the block of a message.
     pub(crate) fn of(block: Vec<u8>, message: Message<'a>) -> Draft<'a> {
         let (definition, walk, names) = message.defined();
-        Draft { block, definition, walk, names, is_free: false }
+        Draft { block, definition, walk, names }
     }
 
     /// The same with another value of a field, as for [`set`](Draft::set).
@@ -280,10 +278,6 @@ impl<'a> Draft<'a> {
         self.names.map_or(message, |names| message.named(names))
     }
 
-    pub(crate) fn is_free(&self) -> bool {
-        self.is_free
-    }
-
     /// The field of a key, where the block has all its items.
     fn found(&self, key: Key<'_>) -> Result<Field<'_>, Unfit> {
         let mut fields = (0..).zip(self.fields());
@@ -317,7 +311,7 @@ impl<'a> From<Message<'a>> for Draft<'a> {
 /// Whether both have the same bytes, the same definition and the same names.
 impl PartialEq for Draft<'_> {
     fn eq(&self, other: &Draft<'_>) -> bool {
-        self.message() == other.message() && self.is_free == other.is_free
+        self.message() == other.message()
     }
 }
 

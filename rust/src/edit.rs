@@ -29,6 +29,9 @@ const POSITION: &str = "position";
 const TIMESTAMP: u8 = 253;
 /// Of fields of records, by their numbers, what a reader tells of them beside their values: speed and sums.
 const TOLD: [(u8, u8); 3] = [(8, TOLD_SPEED | TOLD_DISTANCE), (18, TOLD_CYCLES), (28, TOLD_POWER)];
+/// The same of the fields that have these sums whole.
+const WHOLE: [(&str, u8, u8); 3] =
+    [("distance", 5, TOLD_DISTANCE), ("total_cycles", 19, TOLD_CYCLES), ("accumulated_power", 29, TOLD_POWER)];
 
 /// What is changed of a file.
 ///
@@ -139,7 +142,7 @@ impl Edit {
     /// An [`EditFault`]; then nothing is written, but where a write failed.
     pub fn write<W: Write>(&self, files: &[u8], sink: W) -> Result<(W, Emptied), EditFault> {
         crate::check(files)?;
-        let names = Names::extra();
+        let names = Names::shared_extra();
         let mut editor = Editor::new(self, &names);
         let (mut out, mut rest, mut is_empty) = (Writer::new(sink), files, self.span().is_some());
         while let Some((file, after)) = first_file(rest) {
@@ -169,8 +172,10 @@ impl Edit {
         let plain = Edit { shift: 0, ..self.clone() };
         let mut editor = Editor::new(&plain, names);
         each_message(file, names, |message| {
-            if message.number() == RECORD {
-                part.take(&editor.changed(message)?.message());
+            match message.number() {
+                RECORD if self.drop.is_empty() => part.take(message),
+                RECORD => part.take(&editor.changed(message)?.message()),
+                _ => {}
             }
             Ok::<(), EditFault>(())
         })?;
@@ -195,13 +200,14 @@ impl Named<'_> {
 }
 
 /// What is changed in the messages of a definition: the positions of fields that are emptied and of times, whether the times of headers are left
-/// out, and the bits of what a reader tells of the fields that are emptied.
+/// out, the bits of what a reader tells of the fields that are emptied, and of what isn't written whole.
 #[derive(Default)]
 struct Plan {
     dropped: Vec<usize>,
     times: Vec<usize>,
     drops_headers: bool,
     told: u8,
+    wholes: u8,
 }
 
 /// Makes the changes of messages.
@@ -256,10 +262,17 @@ impl<'e> Editor<'e> {
             if let Some(odometer) = part.odometer.as_mut().filter(|_| message.number() == RECORD) {
                 let mut record = message.draft();
                 record.untell(self.plan_of(message).told);
-                return odometer.put(&record.message(), |draft| Ok(out.write(&self.changed(&draft.message())?)?))?;
+                return odometer.put(&record.message(), |draft| self.write(out, &draft.message()))?;
             }
         }
-        Ok(out.write(&self.changed(message)?)?)
+        self.write(out, message)
+    }
+
+    /// Writes a message with the changes, and no sum of it into a field that is emptied.
+    fn write<W: Write>(&mut self, out: &mut Writer<W>, message: &Message<'_>) -> Result<(), EditFault> {
+        let mut draft = self.changed(message)?;
+        draft.untell(self.plan_of(message).wholes);
+        Ok(out.write(&draft)?)
     }
 
     /// Writes a message that was made anew, of records whose fields are emptied. Its own are left out, and its times moved.
@@ -346,8 +359,12 @@ impl<'e> Editor<'e> {
                 plan.times.push(position);
             }
         }
-        let header = Named { message: of, field: (Some("timestamp"), Some(TIMESTAMP)) };
-        plan.drops_headers = edit.drop.iter().any(|word| word != POSITION && header.is_of(word));
+        let drops = |name, number| {
+            let named = Named { message: of, field: (Some(name), Some(number)) };
+            edit.drop.iter().any(|word| word != POSITION && named.is_of(word))
+        };
+        plan.drops_headers = drops("timestamp", TIMESTAMP);
+        plan.wholes = WHOLE.iter().filter(|(name, number, _)| drops(name, *number)).fold(0, |bits, of| bits | of.2);
         plan
     }
 

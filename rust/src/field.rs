@@ -1,7 +1,7 @@
 //! A field of a message, and its values.
 use crate::blocks::{eight, four, some, text, two, up_to_zero};
 use crate::measure::Measure;
-use crate::names::{Named, Names};
+use crate::names::{Named, NamedFields, Names};
 use crate::numbers::{
     AT_DEFINITION_MESSAGE, AT_ENTRY_BASE_TYPE, AT_ENTRY_COUNT, AT_ENTRY_DECIMALS, AT_ENTRY_DEVELOPER, AT_ENTRY_INDEX,
     AT_ENTRY_INVALID, AT_ENTRY_ITEMS, AT_ENTRY_KIND, AT_ENTRY_NAME, AT_ENTRY_NUMBER, AT_ENTRY_OFFSET, AT_ENTRY_SCALE,
@@ -135,9 +135,9 @@ impl<'a> Field<'a> {
         }
     }
 
-    /// The field by what these names say of it, in a message of this number.
-    pub(crate) fn named(self, names: &'a Names, message: u16) -> Field<'a> {
-        let named = if self.developer().is_none() { names.field(message, self.number()) } else { None };
+    /// The field by what these names say of it, and of all fields of its message.
+    pub(crate) fn named(self, names: &'a Names, of: Option<&'a NamedFields>) -> Field<'a> {
+        let named = of.filter(|_| self.developer().is_none()).and_then(|of| of.get(self.number()));
         Field { named, home: (self.home.0, self.home.1, Some(names)), ..self }
     }
 

@@ -18,6 +18,7 @@ use crate::writer::Writer;
 use std::error::Error;
 use std::fmt::{self, Display, Formatter};
 use std::io::Write;
+use std::rc::Rc;
 
 /// file_id and file_creator, which stay of the first file alone.
 const FILE_ID: [u16; 2] = [0, 49];
@@ -151,7 +152,7 @@ struct Added {
 /// Puts one file after another into an activity.
 struct Joined<W> {
     out: Writer<W>,
-    names: Names,
+    names: Rc<Names>,
     all: Summary,
     /// The sport and the zone of the first file.
     first: Option<(Values, Option<i64>)>,
@@ -165,7 +166,7 @@ struct Joined<W> {
 
 impl<W: Write> Joined<W> {
     fn new(out: Writer<W>) -> Joined<W> {
-        let (names, all, added) = (Names::extra(), Summary::default(), [Some(0.0); 4]);
+        let (names, all, added) = (Names::shared_extra(), Summary::default(), [Some(0.0); 4]);
         Joined { out, names, all, first: None, laps: 0, lengths: 0, span: None, ran: 0.0, added }
     }
 

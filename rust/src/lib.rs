@@ -23,6 +23,7 @@
 #![deny(unsafe_code)]
 
 mod activity;
+mod amounts;
 mod anew;
 mod base_type;
 mod block_reason;

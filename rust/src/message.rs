@@ -5,12 +5,12 @@ use crate::draft::{Draft, Key};
 use crate::event::Events;
 use crate::field::{Field, Value};
 use crate::library::Bytes;
-use crate::names::Names;
+use crate::names::{NamedFields, Names};
 use crate::numbers::{
-    AT_DEFINITION_MESSAGE, AT_DEFINITION_NAME, AT_ENTRY_NAME, AT_FILE, AT_MESSAGE_BITS, AT_MESSAGE_CYCLES,
-    AT_MESSAGE_DISTANCE, AT_MESSAGE_HEADER_TIME, AT_MESSAGE_LOCAL, AT_MESSAGE_OFFSET, AT_MESSAGE_POWER,
-    AT_MESSAGE_SPEED, AT_MESSAGE_TIME, AT_PLACE, NO_OFFSET, TOLD_CYCLES, TOLD_DISTANCE, TOLD_HEADER_TIME, TOLD_POWER,
-    TOLD_SPEED, TOLD_TIME,
+    AT_DEFINITION_MESSAGE, AT_DEFINITION_NAME, AT_ENTRY_DEVELOPER, AT_ENTRY_NAME, AT_ENTRY_NUMBER, AT_FILE,
+    AT_MESSAGE_BITS, AT_MESSAGE_CYCLES, AT_MESSAGE_DISTANCE, AT_MESSAGE_HEADER_TIME, AT_MESSAGE_LOCAL,
+    AT_MESSAGE_OFFSET, AT_MESSAGE_POWER, AT_MESSAGE_SPEED, AT_MESSAGE_TIME, AT_PLACE, NO_OFFSET, TOLD_CYCLES,
+    TOLD_DISTANCE, TOLD_HEADER_TIME, TOLD_POWER, TOLD_SPEED, TOLD_TIME,
 };
 use crate::ready::{self, Ready};
 use crate::time::Time;
@@ -257,7 +257,7 @@ impl<'a> Message<'a> {
     /// The first field with this number, developer fields left out.
     #[must_use]
     pub fn numbered(&self, number: u8) -> Option<Field<'a>> {
-        self.fields().find(|field| field.developer().is_none() && field.number() == number)
+        self.fields().find_entry(|entry| entry[AT_ENTRY_DEVELOPER] == 0 && entry[AT_ENTRY_NUMBER] == number)
     }
 
     /// The first developer field with this developer data index and this number.
@@ -324,7 +324,7 @@ impl<'a> Message<'a> {
         self.block[AT_MESSAGE_BITS] & bit != 0
     }
 
-    fn amount(&self, bit: u8, at: usize) -> Option<u64> {
+    pub(crate) fn amount(&self, bit: u8, at: usize) -> Option<u64> {
         (self.tells(bit) && self.block.len() >= at + 8).then(|| eight(self.block, at))
     }
 }
@@ -352,13 +352,27 @@ pub struct Fields<'a> {
     entries: Entries<'a>,
     definition: &'a [u8],
     message: &'a [u8],
-    /// What is said of fields beside the profile, and the number of the message.
-    named: Option<(&'a Names, u16)>,
+    /// What is said of fields beside the profile, and what of those of the message.
+    named: Option<(&'a Names, Option<&'a NamedFields>)>,
 }
 
 impl<'a> Fields<'a> {
     pub(crate) fn new(definition: &'a [u8], message: &'a [u8], named: Option<(&'a Names, u16)>) -> Fields<'a> {
+        let named = named.map(|(names, message)| (names, names.fields(message)));
         Fields { entries: Entries::new(definition), definition, message, named }
+    }
+
+    /// The first field whose entry is such a one.
+    fn find_entry(mut self, is: impl FnMut(&&[u8]) -> bool) -> Option<Field<'a>> {
+        self.entries.find(is).map(|entry| self.of(entry))
+    }
+
+    fn of(&self, entry: &'a [u8]) -> Field<'a> {
+        let field = Field::new(entry, self.definition, self.message);
+        match self.named {
+            Some((names, of)) => field.named(names, of),
+            None => field,
+        }
     }
 }
 
@@ -366,11 +380,7 @@ impl<'a> Iterator for Fields<'a> {
     type Item = Field<'a>;
 
     fn next(&mut self) -> Option<Field<'a>> {
-        let field = Field::new(self.entries.next()?, self.definition, self.message);
-        Some(match self.named {
-            Some((names, message)) => field.named(names, message),
-            None => field,
-        })
+        self.entries.next().map(|entry| self.of(entry))
     }
 }
 

@@ -4,10 +4,14 @@ use crate::words::type_named;
 use std::collections::{BTreeMap, BTreeSet};
 use std::error::Error;
 use std::fmt::{self, Display, Formatter};
+use std::rc::Rc;
 
 const COLUMNS: [&str; 9] =
     ["message", "message name", "field", "field name", "unit", "scale", "offset", "type", "base type"];
-const EXTRA: &str = include_str!("extra.tsv");
+
+thread_local! {
+    static EXTRA: Rc<Names> = Rc::new(Names::read(include_str!("extra.tsv")).unwrap_or_default());
+}
 
 /// What is said of a field. `None` leaves what the library says of it.
 #[derive(Debug, Clone, Default)]
@@ -54,13 +58,34 @@ impl Eq for Named {}
 #[derive(Debug, Clone, Default, PartialEq, Eq)]
 pub struct Names {
     messages: BTreeMap<u16, String>,
-    fields: BTreeMap<(u16, u8), Named>,
+    fields: BTreeMap<u16, NamedFields>,
     base_types: BTreeMap<(u16, u8), BaseType>,
     /// The types by which numbers of fields have words.
     types: BTreeMap<(u16, u8), &'static str>,
     /// The fields that are times in UTC, and those that are times by the clock of the place.
     times: BTreeSet<(u16, u8)>,
     local_times: BTreeSet<(u16, u8)>,
+}
+
+/// What is said of the fields of a message, each at its number.
+#[derive(Debug, Clone, Default, PartialEq, Eq)]
+pub(crate) struct NamedFields(Vec<Option<Box<Named>>>);
+
+impl NamedFields {
+    fn set(&mut self, field: u8, named: Named) {
+        let length = self.0.len().max(usize::from(field) + 1);
+        self.0.resize(length, None);
+        self.0[usize::from(field)] = Some(Box::new(named));
+    }
+
+    pub(crate) fn get(&self, field: u8) -> Option<&Named> {
+        self.0.get(usize::from(field))?.as_deref()
+    }
+
+    fn number_of(&self, name: &str) -> Option<u8> {
+        let is_named = |of: &Option<Box<Named>>| of.as_ref().and_then(|of| of.name.as_deref()) == Some(name);
+        self.0.iter().position(is_named).and_then(|number| u8::try_from(number).ok())
+    }
 }
 
 /// What is wrong with a text of names, and in which line, counted from 1.
@@ -91,7 +116,12 @@ impl Names {
     /// is proved; the first lines of `src/extra.tsv` say of which edition they are.
     #[must_use]
     pub fn extra() -> Names {
-        Names::read(EXTRA).unwrap_or_default()
+        Names::clone(&Names::shared_extra())
+    }
+
+    /// The same ones for all who only read them.
+    pub(crate) fn shared_extra() -> Rc<Names> {
+        EXTRA.with(Rc::clone)
     }
 
     /// The names of a text with tabs between cells. It begins with the names of its columns, which are some of `message`, `message name`,
@@ -162,7 +192,7 @@ impl Names {
 
     /// Says of a field of a message what it is. A scale that is 0 gives no values.
     pub fn name_field(&mut self, message: u16, field: u8, named: Named) {
-        self.fields.insert((message, field), named);
+        self.fields.entry(message).or_default().set(field, named);
     }
 
     /// Says which base type a field mostly has, by which a [`Definition`](crate::Definition) takes it.
@@ -200,19 +230,23 @@ impl Names {
     /// The number of the field of a message that has a name, as 3 of `heart_rate`.
     #[must_use]
     pub fn field_named(&self, message: u16, name: &str) -> Option<u8> {
-        let mut fields = self.fields.range((message, 0)..=(message, u8::MAX));
-        fields.find(|(_, named)| named.name.as_deref() == Some(name)).map(|(&(_, number), _)| number)
+        self.fields.get(&message)?.number_of(name)
     }
 
     /// Whether a field of any message has a name.
     pub(crate) fn has_field(&self, name: &str) -> bool {
-        self.fields.values().any(|named| named.name.as_deref() == Some(name))
+        self.fields.values().any(|fields| fields.number_of(name).is_some())
     }
 
     /// What is said of a field of a message.
     #[must_use]
     pub fn field(&self, message: u16, field: u8) -> Option<&Named> {
-        self.fields.get(&(message, field))
+        self.fields.get(&message)?.get(field)
+    }
+
+    /// What is said of the fields of a message.
+    pub(crate) fn fields(&self, message: u16) -> Option<&NamedFields> {
+        self.fields.get(&message)
     }
 }
 

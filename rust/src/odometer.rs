@@ -1,5 +1,5 @@
 //! The distances of records, which go on from one ride to the next one, and what a reader accumulates of them.
-use crate::definition::Definition;
+use crate::amounts::{with_values, Numbered};
 use crate::message::Message;
 use crate::value_error::Unfit;
 
@@ -20,7 +20,7 @@ impl Odometer {
     }
 
     /// What a record has to say: values by the numbers of their fields, with the base types and names of the profile.
-    fn values(&mut self, record: &Message<'_>) -> Vec<(u8, &'static str, f64)> {
+    fn values(&mut self, record: &Message<'_>) -> Vec<Numbered> {
         let told = [
             (CYCLES, "total_cycles", record.total_cycles().map(|cycles| cycles as f64)),
             (POWER, "accumulated_power", record.accumulated_power().map(|power| power as f64)),
@@ -52,16 +52,6 @@ impl Odometer {
         record: &Message<'_>,
         then: impl FnOnce(&crate::draft::Draft<'_>) -> T,
     ) -> Result<T, Unfit> {
-        let values = self.values(record);
-        let is_new = |number: u8| record.numbered(number).is_none();
-        let mut definition: Definition<'_> = record.definition();
-        for &(_, name, _) in values.iter().filter(|of| is_new(of.0)) {
-            definition = definition.with(name, 1)?;
-        }
-        let mut draft = if values.iter().any(|of| is_new(of.0)) { definition.filled(record) } else { record.draft() };
-        for &(number, _, value) in &values {
-            draft.set(number, value)?;
-        }
-        Ok(then(&draft))
+        with_values(record, &self.values(record), |draft| Ok(then(draft?)))
     }
 }

@@ -13,7 +13,8 @@ use std::io;
 pub enum PutFault {
     /// It can't stand there: what is said of its block.
     Refused(BlockReason),
-    /// A developer field of the message isn't described where it comes from, and is described in the file: it would be read as another one.
+    /// A developer field of the message isn't described where it comes from, and is described in the file: it would be read as another one. Or
+    /// it can't be described: its name or its unit has more than 254 bytes or a control character, or two of one number differ.
     Described {
         /// Its name, or `dev_0_5` by its numbers.
         field: String,
@@ -27,7 +28,8 @@ impl Display for PutFault {
         match self {
             PutFault::Refused(reason) => f.write_str(reason.explanation()),
             PutFault::Described { field } => {
-                write!(f, "the developer field {field} isn't described where it comes from, and is in this file")
+                let what = "isn't described where it comes from, and is in this file, or can't be described";
+                write!(f, "the developer field {field} {what}")
             }
             PutFault::OutOfMemory => f.write_str("out of memory"),
         }

@@ -2,7 +2,7 @@
 use crate::base_type::BaseType;
 use crate::field::Raw;
 use crate::message::Message;
-use crate::time::{time_after, Time};
+use crate::time::Time;
 
 impl Message<'_> {
     /// The time of its first field 253, where that is a valid one.
@@ -18,12 +18,5 @@ impl Message<'_> {
     /// The time that its time offset says.
     pub(crate) fn offset_time(&self) -> Option<u32> {
         self.time_offset().and(self.header_time()).map(Time::seconds)
-    }
-
-    /// Whether it needs a timestamp after a message of a time, as it has no other time than that of its offset, which would be another.
-    pub(crate) fn is_late(&self, before: Option<u32>) -> bool {
-        let after = |before: u32| self.time_offset().map(|offset| time_after(before, offset));
-        let is_lost = |time| before.and_then(after) != Some(time);
-        self.offset_time().map_or(false, is_lost) && self.own_time().is_none()
     }
 }

@@ -19,7 +19,7 @@ use crate::writer::Writer;
 /// The files of a good chain, each with the lap, the session and the activity message that it lacks. The session gets that sport, or else the
 /// one that the file names.
 pub(crate) fn completed(files: &[u8], sport: Option<&Values>) -> Result<Vec<u8>, MendFault> {
-    let (names, mut made, mut rest) = (Names::extra(), Vec::with_capacity(files.len()), files);
+    let (names, mut made, mut rest) = (Names::shared_extra(), Vec::with_capacity(files.len()), files);
     while let Some((file, after)) = first_file(rest) {
         match lacking(file, &names, sport)? {
             lacking if lacking.is_empty() => made.extend_from_slice(file),

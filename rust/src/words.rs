@@ -15,7 +15,6 @@ struct Case {
 thread_local! {
     static WORDS: BTreeMap<&'static str, BTreeMap<u64, &'static str>> = all_words();
     static CASES: BTreeMap<(u16, u8), Vec<Case>> = all_cases();
-    static EXTRA: Names = Names::extra();
 }
 
 /// The rows of a table of the crate, without its first line.
@@ -102,7 +101,7 @@ impl Field<'_> {
         let of = (message, self.number());
         let own = names.and_then(|names| names.type_of(message, self.number()));
         let told = || profile::type_of(message, self.number());
-        let extra = || EXTRA.with(|names| names.type_of(message, self.number()));
+        let extra = || Names::shared_extra().type_of(message, self.number());
         own.or_else(|| CASES.with(|cases| self.case(cases.get(&of)?))).or_else(told).or_else(extra)
     }
 

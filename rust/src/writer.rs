@@ -1,4 +1,5 @@
 //! Files from messages.
+use crate::amounts::Amounts;
 use crate::block_reason::BlockReason;
 use crate::chain::Chain;
 use crate::definition::Definition;
@@ -54,18 +55,20 @@ use std::io::Write;
 ///
 /// A message is read as it was, whatever messages come before it: it brings its definition along where that isn't there, the descriptions of
 /// its developer fields where the file describes them in another way, and a timestamp where its time is that of a compressed header which
-/// would say another time. What can't be put is said by the call that puts it, and leaves the writer as it was.
+/// would say another time. What can't be put is said by the call that puts it, and the writer goes on with what it had.
 pub struct Writer<W> {
     sink: W,
     chain: Option<Chain>,
     /// Whether a file has begun that isn't ended.
     is_open: bool,
+    /// What a reader of it has accumulated so far.
+    amounts: Amounts,
 }
 
 impl<W: Write> Writer<W> {
     /// Writes nothing yet.
     pub fn new(sink: W) -> Writer<W> {
-        Writer { sink, chain: None, is_open: false }
+        Writer { sink, chain: None, is_open: false, amounts: Amounts::default() }
     }
 
     /// Begins a file with this header, after the end of one that is there. Without it a file begins with a header of its own: of 14 bytes,
@@ -76,7 +79,7 @@ impl<W: Write> Writer<W> {
     /// [`PutFault::Refused`] of a header that no file has, and of the 16,777,216th; [`PutFault::OutOfMemory`].
     pub fn begin(&mut self, header: &Header<'_>) -> Result<(), PutFault> {
         self.chain()?.begin(header.block())?;
-        self.is_open = true;
+        (self.is_open, self.amounts) = (true, Amounts::default());
         Ok(())
     }
 
@@ -87,7 +90,13 @@ impl<W: Write> Writer<W> {
     /// [`PutFault::Described`]; [`PutFault::Refused`] of one of 255 fields that needs a timestamp, and where the file has no room for it;
     /// [`PutFault::OutOfMemory`].
     pub fn write(&mut self, draft: &Draft<'_>) -> Result<(), PutFault> {
-        self.put(|chain| chain.put(&draft.after(chain.time()).message(), draft.is_free()))
+        let amounts = self.amounts();
+        self.put(|chain| {
+            let draft = draft.after(chain.time());
+            amounts.kept(&draft.message(), |message| chain.put(message))
+        })?;
+        self.amounts = amounts.after(&draft.message());
+        Ok(())
     }
 
     /// Writes just what was read.
@@ -107,13 +116,17 @@ impl<W: Write> Writer<W> {
         }
     }
 
-    /// Writes a message as it was read.
+    /// Writes a message as it was read. What a reader would accumulate otherwise, as where messages before are left out, is written into the
+    /// fields that have it whole: `distance`, `total_cycles`, `accumulated_power`.
     ///
     /// # Errors
     ///
     /// As for [`write`](Writer::write).
     pub fn copy_message(&mut self, message: &Message<'_>) -> Result<(), PutFault> {
-        self.put(|chain| chain.put(message, false))
+        let amounts = self.amounts();
+        self.put(|chain| amounts.kept(message, |message| chain.put(message)))?;
+        self.amounts = amounts.after(message);
+        Ok(())
     }
 
     /// Writes a definition, also where it is there. It takes the names and types of its developer fields by the descriptions before it.
@@ -132,9 +145,8 @@ impl<W: Write> Writer<W> {
     ///
     /// [`WriteFault::Unfit`] where its name or its unit is no text for it, and as for [`write`](Writer::write).
     pub fn describe(&mut self, developer: &Developer) -> Result<(), WriteFault> {
-        let description = developer.description();
-        let definition = description.definition()?;
-        Ok(self.write(&description.message(&definition)?)?)
+        let definition = developer.definition()?;
+        Ok(self.write(&developer.message(&definition)?)?)
     }
 
     /// Ends the file that has begun, if one has: what is written next is of another file.
@@ -163,6 +175,14 @@ impl<W: Write> Writer<W> {
         let chain = self.chain.as_mut().ok_or(PutFault::Refused(BlockReason::NoFile))?;
         self.sink.write_all(&chain.finish()?)?;
         Ok(self.sink.flush()?)
+    }
+
+    fn amounts(&self) -> Amounts {
+        if self.is_open {
+            self.amounts
+        } else {
+            Amounts::default()
+        }
     }
 
     fn chain(&mut self) -> Result<&mut Chain, PutFault> {

@@ -11,7 +11,7 @@ TREE = os.path.dirname(os.path.dirname(os.path.dirname(os.path.abspath(__file__)
 sys.path[:0] = [os.path.join(TREE, "python"), os.path.join(TREE, "python", "tests"), os.path.join(TREE, "js", "tests")]
 sys.dont_write_bytecode = True
 import gazhdor  # noqa: E402
-from activities import activity  # noqa: E402
+from activities import activity, strayed  # noqa: E402
 from edited import Calls, add  # noqa: E402
 
 COMPARED = 12  # of so many activities all calls are compared
@@ -61,6 +61,7 @@ def main():
             names.append(f"activity-{number}.fit")
             add(calls, r, names[-1], data)
             calls.take("mend", [names[-1]], lambda data=data: gazhdor.mend(data))
+            add(calls, r, f"strayed-{number}.fit", strayed(number)[0])
             sample(calls, r, number)
     for name in names:
         with open(os.path.join(folder, name), "rb") as file:

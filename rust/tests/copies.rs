@@ -61,20 +61,43 @@ fn message_by_message() {
     }
 }
 
-/// What a message says, but for a timestamp that it got: its number, its time, each field and developer field with name, unit, base type and
-/// items.
+/// The fields of a record that have whole what a reader accumulates.
+const WHOLE: [u8; 3] = [5, 19, 29];
+
+/// What a record tells in one of these, or else what a reader accumulates, a distance in whole centimetres. None where the field is there
+/// without a value, and of a type that hasn't room for each.
+fn amount(message: &Message<'_>, number: u8) -> Option<String> {
+    let field = message.numbered(number);
+    if let Some(field) = field.filter(|field| field.whole() != Value::None) {
+        return Some(format!("{:?}", field.whole()));
+    }
+    let has_room = |field: Field<'_>| field.base_type() == BaseType::Uint32.code() && field.count() == 1;
+    let told = match number {
+        5 => message.distance().map(|metres| Value::Float((100.0 * metres).round() / 100.0)),
+        19 => message.total_cycles().map(Value::Unsigned),
+        _ => message.accumulated_power().map(Value::Unsigned),
+    };
+    told.filter(|_| field.map_or(true, has_room)).map(|told| format!("{told:?}"))
+}
+
+/// What a message says, but for a timestamp that it got, and for sums of a record that it got: its number, its time, each field and developer
+/// field with name, unit, base type and items, and these sums.
 fn said(message: &Message<'_>, is_dated: bool) -> Said {
     let of = |field: Field<'_>| {
         let text = |text: Option<&str>| text.map(str::to_string);
         let told = (field.developer(), field.number(), field.base_type(), field.bytes().to_vec());
         (told, text(field.name()), text(field.unit()))
     };
-    let fields = message.fields().skip(is_dated.into()).map(of).collect();
-    (message.number(), message.time(), fields)
+    let is_whole = |field: &Field<'_>| field.developer().is_none() && WHOLE.contains(&field.number());
+    let is_record = message.number() == 20;
+    let fields =
+        message.fields().skip(is_dated.into()).filter(|field| !is_record || !is_whole(field)).map(of).collect();
+    let sums = WHOLE.map(|number| amount(message, number).filter(|_| is_record));
+    (message.number(), message.time(), fields, sums)
 }
 
 type Told = ((Option<u8>, u8, u8, Vec<u8>), Option<String>, Option<String>);
-type Said = (u16, Option<Time>, Vec<Told>);
+type Said = (u16, Option<Time>, Vec<Told>, [Option<String>; 3]);
 
 /// Messages of two files by turns, with the same local message types and the same developer fields, which they describe in other ways: each
 /// is read as it was, whatever comes before it.
@@ -102,11 +125,13 @@ fn two_files_by_turns() {
         }
         let file = out.finish().unwrap();
         let read = messages(&file).unwrap();
-        let told: Vec<_> = read.iter().filter(|message| message.number() != 206).collect();
-        let wanted: Vec<_> = wanted.iter().filter(|message| message.number() != 206).collect();
+        let told: Vec<_> = read.iter().filter(|message| ![206, 207].contains(&message.number())).collect();
+        let wanted: Vec<_> = wanted.iter().filter(|message| ![206, 207].contains(&message.number())).collect();
         assert_eq!(told.len(), wanted.len());
         for (message, of) in told.iter().zip(&wanted) {
-            let is_dated = message.fields().count() > of.fields().count();
+            let is_stamp = |field: &Field<'_>| field.developer().is_none() && field.number() == 253;
+            let stamps = |of: &Message<'_>| of.fields().filter(is_stamp).count();
+            let is_dated = stamps(message) > stamps(of);
             assert_eq!(said(message, is_dated), said(of, false));
         }
         seen += wanted.len();
@@ -219,4 +244,66 @@ fn random_files_by_their_values() {
         unsaid += more;
     }
     assert!(unsaid > 0);
+}
+
+/// What a reader accumulates stays as it was where messages before are left out, or files are put together: it is written into the fields that
+/// have it whole. The distances, cycles and watts are those that were written.
+#[test]
+fn what_is_accumulated() {
+    let mut random = Random(20_261_201);
+    for _ in 0..40 {
+        let step = |random: &mut Random, most| random.below(most) as u64;
+        let (mut sums, mut told) =
+            ([step(&mut random, 4000), step(&mut random, 250), step(&mut random, 60_000)], vec![]);
+        let record = Definition::of("record", &["timestamp", "heart_rate"]).unwrap();
+        let record = record.with_field(8, BaseType::Byte, 3).unwrap().with_field(18, BaseType::Uint8, 1).unwrap();
+        let record = record.with_field(28, BaseType::Uint16, 1).unwrap();
+        let mut out = Writer::new(Vec::new());
+        for k in 0..30 {
+            let [distance, cycles, power] = sums;
+            let packed = (((distance & 0xFFF) << 12) | 300).to_le_bytes();
+            let draft = record.message().with("timestamp", 1_147_937_400 + k).unwrap();
+            let draft =
+                draft.with(8, &packed[..3]).unwrap().with(18, cycles & 0xFF).unwrap_or_else(|_| record.message());
+            out.write(&draft.with(28, power & 0xFFFF).unwrap_or_else(|_| record.message())).unwrap();
+            told.push(sums);
+            sums = [
+                distance + step(&mut random, 4096),
+                cycles + step(&mut random, 250),
+                power + step(&mut random, 65_000),
+            ];
+        }
+        let read = out.finish().unwrap();
+        let read = messages(&read).unwrap();
+        let sums = |message: &Message<'_>| {
+            let value =
+                |number: u8, told: Option<f64>| message.numbered(number).and_then(|field| field.value(0)).or(told);
+            let cycles = value(19, message.total_cycles().map(|told| told as f64));
+            (
+                message.time(),
+                value(5, message.distance()),
+                cycles,
+                value(29, message.accumulated_power().map(|told| told as f64)),
+            )
+        };
+        let wanted: Vec<_> = read.iter().map(|message| sums(&message)).collect();
+        let mut out = Writer::new(Vec::new());
+        let kept: Vec<_> = (0..wanted.len()).filter(|k| k % 3 != 0).collect();
+        read.iter()
+            .enumerate()
+            .filter(|(k, _)| kept.contains(k))
+            .for_each(|(_, message)| out.copy_message(&message).unwrap());
+        let copied = out.finish().unwrap();
+        let near = |one: Option<f64>, other: Option<f64>| {
+            one.zip(other).map_or(one == other, |(one, other)| (one - other).abs() < 0.0051)
+        };
+        for (message, k) in messages(&copied).unwrap().iter().zip(kept) {
+            let (found, wanted) = (sums(&message), wanted[k]);
+            assert!(
+                near(found.1, wanted.1) && (found.0, found.2, found.3) == (wanted.0, wanted.2, wanted.3),
+                "{found:?} {wanted:?}"
+            );
+        }
+        assert_eq!(told.len(), wanted.len());
+    }
 }

@@ -108,8 +108,8 @@ fn developer_fields_without_their_description() {
         assert_eq!((record.value("power"), record.value("lean")), (Some(300.0), Some(-3.0)));
         assert_eq!(record.field("lean").unwrap().unit(), Some("W"));
     }
-    // Of the first file both, after the one that was written by itself; of the second both once.
-    assert_eq!(read.iter().filter(|message| message.number() == 206).count(), 5);
+    // Each is described once in each file.
+    assert_eq!(read.iter().filter(|message| message.number() == 206).count(), 4);
 }
 
 /// A developer field of which no description says what it is, in a file that describes it: it would be read as that one.
@@ -125,13 +125,53 @@ fn a_developer_field_that_nothing_describes() {
     assert_eq!(fault, PutFault::Described { field: "dev_0_1".to_string() });
     assert_eq!(
         fault.to_string(),
-        "the developer field dev_0_1 isn't described where it comes from, and is in this file"
+        "the developer field dev_0_1 isn't described where it comes from, and is in this file, or can't be described"
     );
     out.write(&own.message().with("power", 8).unwrap()).unwrap();
     let file = out.finish().unwrap();
     let read = messages(&file).unwrap();
     let values: Vec<_> = read.iter().filter_map(|message| message.value("power")).collect();
     assert_eq!(values, [7.0, 8.0]);
+}
+
+/// A developer field whose name or unit no description can have, of which nothing is written.
+#[test]
+fn a_developer_field_that_can_t_be_described() {
+    let heart = Definition::of("record", &["heart_rate"]).unwrap();
+    let begin = || {
+        let mut out = Writer::new(Vec::new());
+        out.write(&heart.message().with("heart_rate", 60).unwrap()).unwrap();
+        out
+    };
+    let wanted = begin().finish().unwrap();
+    for (name, unit) in [("n".repeat(255), ""), ("a\nb".to_string(), ""), ("lean".to_string(), "\u{7f}")] {
+        let odd = Developer { index: 0, number: 9, base_type: BaseType::Uint8, name, unit: unit.to_string() };
+        let record = heart.clone().with_developer(&odd, 1).unwrap();
+        let mut out = begin();
+        let fault = out.write(&record.message().with((0, 9), 1).unwrap()).unwrap_err();
+        assert_eq!(fault, PutFault::Described { field: "dev_0_9".to_string() });
+        assert_eq!(out.finish().unwrap(), wanted);
+    }
+}
+
+/// The description that comes with a message: its index first, and both once.
+#[test]
+fn a_description_that_comes_with_a_message() {
+    let power = Developer { index: 3, number: 9, base_type: BaseType::Sint16, name: "power".into(), unit: "W".into() };
+    let record = Definition::numbered(20).with_developer(&power, 1).unwrap();
+    let mut out = Writer::new(Vec::new());
+    for value in [-1, -2] {
+        out.write(&record.message().with("power", value).unwrap()).unwrap();
+    }
+    let file = out.finish().unwrap();
+    let read = messages(&file).unwrap();
+    assert_eq!(read.iter().map(|message| message.number()).collect::<Vec<_>>(), [207, 206, 20, 20]);
+    let number = |k: usize, field: u8| read.iter().nth(k).unwrap().numbered(field).and_then(|field| field.value(0));
+    assert_eq!(
+        (number(0, 3), number(1, 0), number(1, 1), number(1, 2)),
+        (Some(3.0), Some(3.0), Some(9.0), Some(131.0))
+    );
+    assert_eq!(read.iter().filter_map(|message| message.value("power")).collect::<Vec<_>>(), [-1.0, -2.0]);
 }
 
 /// A message of 255 fields whose time is that of its header, and isn't where it comes: there is no room for a timestamp. The writer goes on

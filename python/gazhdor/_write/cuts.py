@@ -78,7 +78,8 @@ class Part:
         # the time of the last record that was taken in, and of the last message that was asked for
         self._record_time: Optional[int] = None
         self._time: Optional[int] = None
-        self._is_later = False
+        # whether a record stays, and whether one before it was left out
+        self._has_record = self._is_later = False
         self._odometer: Optional[Odometer] = None
         # the laps and sessions that stay as they are, by their numbers; and of each sport whether a session stays
         self._wholes: Optional[set[tuple[int, Any]]] = None
@@ -136,7 +137,7 @@ class Part:
             return None
         if self._time is None or self._stays(message, self._time):
             return self._of_record(message) if number == RECORD else message
-        self._is_later = self._is_later or number == RECORD
+        self._is_later = self._is_later or number == RECORD and not self._has_record
         return None
 
     def _stays(self, message: Message, time: int) -> bool:
@@ -147,7 +148,8 @@ class Part:
         return not isinstance(start, int) or self._span.has(start)
 
     def _of_record(self, record: Message) -> Message:
-        """A record that stays. Where some before it don't, distances begin at 0 again."""
+        """A record that stays. Where some before the first one don't, distances begin at 0 again."""
+        self._has_record = True
         if self._odometer is None and self._is_later:
             self._odometer = Odometer()
         return self._odometer.moved(record) if self._odometer else record

@@ -47,6 +47,8 @@ _TOLD = {
     18: [(TOLD_CYCLES, AT_MESSAGE_CYCLES)],
     28: [(TOLD_POWER, AT_MESSAGE_POWER)],
 }
+# The same of the fields that have these sums whole, by their names and numbers.
+_WHOLE = {("distance", 5): 8, ("total_cycles", 19): 18, ("accumulated_power", 29): 28}
 
 
 class Change(NamedTuple):
@@ -89,12 +91,13 @@ def _known_names() -> set[str]:
 
 class _Plan(NamedTuple):
     """What is emptied in the messages of a definition, by what it is called, which of their fields are times, whether
-    times in headers are left out, and what a reader tells of the fields that are emptied."""
+    times in headers are left out, what a reader tells of the fields that are emptied, and what isn't written whole."""
 
     dropped: list[tuple[str, Packer]]
     times: list[Packer]
     drops_headers: bool
     told: list[tuple[int, int]]
+    wholes: list[tuple[int, int]]
 
 
 class _Editor:
@@ -120,7 +123,10 @@ class _Editor:
                         told += _TOLD.get(entry.number, ())
             times = [Packer(entry) for entry in definition.entries if entry.type and not entry.is_scaled]
             of_header = _Named(definition.name, definition.number, "timestamp", _TIMESTAMP)
-            plan = _Plan(dropped, times, any(map(of_header.is_of, self._change.drop)), told)
+            named = {key: _Named(definition.name, definition.number, *key) for key in _WHOLE}
+            whole = [of for key, of in _WHOLE.items() if any(map(named[key].is_of, self._change.drop))]
+            wholes = [_TOLD[of][-1] for of in whole if definition.is_counted]
+            plan = _Plan(dropped, times, any(map(of_header.is_of, self._change.drop)), told, wholes)
             definition.made["edit"] = self, plan
         found: _Plan = plan
         return found
@@ -147,12 +153,7 @@ class _Editor:
 
     def untold(self, message: Message) -> Message:
         """A message of which no sum is told that a reader makes of a field which is emptied."""
-        told = self._plan(message._definition).told if self._change.drop else []
-        if not told:
-            return message
-        block = bytearray(message._block)
-        _untell(block, told)
-        return Message(bytes(block), message._definition)
+        return _without(message, self._plan(message._definition).told) if self._change.drop else message
 
     def changed(self, message: Message) -> Message:
         if not self._change.drop and not self._change.shift:
@@ -176,7 +177,8 @@ class _Editor:
         if isinstance(found, Anew):
             self.anew(found).write(out)
         elif found is not None:
-            out.copy(self.changed(found))
+            changed = self.changed(found)
+            out.copy(_without(changed, self._plan(changed._definition).wholes) if self._change.drop else changed)
 
     def _count(self, definition: Definition, label: str) -> None:
         named = definition.name or f"message_{definition.number}", label
@@ -201,6 +203,15 @@ class _Editor:
                 raise UnknownName("no message is named", message, [*profile(), *EXTRA.messages])
             if not field.isdecimal() and field not in _known_names():
                 raise UnknownName("neither the profile nor the file has a field", field, _known_names())
+
+
+def _without(message: Message, told: list[tuple[int, int]]) -> Message:
+    """A message that doesn't tell these sums."""
+    if not told:
+        return message
+    block = bytearray(message._block)
+    _untell(block, told)
+    return Message(bytes(block), message._definition)
 
 
 def _untell(block: bytearray, told: list[tuple[int, int]]) -> None:

@@ -1,8 +1,7 @@
 """Files that are written from values, and from what others have."""
-from collections.abc import Callable, Iterable, Iterator, Mapping
+from collections.abc import Iterable, Iterator, Mapping
 from typing import Any, Optional, Union
 
-from .._answers import Answer
 from .._base_types import base_named
 from .._library import exact, library, text_of
 from .._names import Told, names_of
@@ -15,7 +14,8 @@ from .._read.values import Definition as Known
 from .._times import OWN_TIME
 from ..errors import BlocksRefused, judge
 from .definitions import KINDS, Kept, block_for, header_block
-from .describing import describe, described, other
+from .describing import described, not_described
+from .distances import kept
 from .field_shapes import DeveloperField, Shapes, Spec, byte, message_number
 from .message_writer import Definition
 from .put import Blocks, Chain
@@ -62,6 +62,8 @@ class Writer:
         # what the current file describes, and what `write` has made for it
         self._developers: dict[Any, DeveloperField] = {}
         self._indices: set[Optional[int]] = set()
+        # the developer fields of the last messages that have some
+        self._own: tuple[DeveloperField, ...] = ()
         self._kinds: dict[Any, Definition] = {}
 
     # ---- what is written
@@ -160,9 +162,10 @@ class Writer:
         """Writes what `messages` gives: a message, as it is or with other values (`replace`), and, with `everything`,
         headers and definition messages; a file ends where the next one begins. What isn't changed keeps its bytes. A
         message is read as it was: it brings its definition message along where that isn't there, the descriptions of
-        its developer fields where these are described in another way, and a timestamp where its time is in its header
-        and would be another one after other messages."""
+        its developer fields where these are described in another way, a timestamp where its time is in its header and
+        would be another one after other messages, and whole what a reader would accumulate otherwise."""
         if isinstance(event, Message):
+            event = kept(event, self._chain.sums if self._chain else {})
             block, definition = event._block, event._definition
             time = block[OWN_TIME] if block[AT_MESSAGE_BITS] & TOLD_TIME else None
             self._put(definition, block_for(definition, block[AT_MESSAGE_LOCAL]), block, time)
@@ -217,7 +220,7 @@ class Writer:
         """Begins a file. Of what was known of the one before only names may be left if this is interrupted."""
         self._see_usable()
         chain = self._chain or Chain()
-        self._kinds, self._indices = {}, set()
+        self._kinds, self._indices, self._own = {}, set(), ()
         chain.begin(header)
         self._chain = chain
         self._developers = {}
@@ -244,27 +247,27 @@ class Writer:
         if known.number == DESCRIPTION:
             self._learn(known, blocks)
         answer = chain.put(definition, blocks, time)
-        if not answer.good:
+        is_put = answer.good
+        if is_put or answer._row:
+            self._chain = chain
+            own = known.made.get("described")
+            if own is None or own and own is not self._own:
+                self._learn_own(described(known))
+        if not is_put:
             if answer.reason == "Described":
-                blocks = blocks[answer._place :]
-                answer = self._describing(chain, known, lambda: chain.put(definition, blocks, time))
-            if answer._row:
-                self._chain = chain
+                raise not_described(known)
             judge(answer)
-        self._chain = chain
         if known.number == DEVELOPER_DATA:
             self._indices |= {lone_number(known.by_key.get(3), 1, block) for block in _each(blocks)}
 
-    def _describing(self, chain: Chain, known: Known, put: Callable[[], Answer]) -> Answer:
-        """Puts messages once their developer fields are described as they are where they come from."""
-        entries = described(known)
-        if entries:
-            self._chain = chain
-        describe(self, entries)
-        answer = put()
-        if answer.reason == "Described":
-            raise other(known)
-        return answer
+    def _learn_own(self, own: tuple[DeveloperField, ...]) -> None:
+        """Takes in the developer fields of messages that were put, which were described with these if they weren't. What
+        was named before keeps its name."""
+        for of in own:
+            if self._developers.setdefault(of.key, of) is of:
+                self._indices.add(of.developer)
+            self._developers.setdefault(of.name, of)
+        self._own = own
 
     def _learn(self, known: Known, blocks: Blocks) -> None:
         """Takes in what descriptions say, before they are written: a name that nothing has then names nothing wrong."""
