@@ -5,6 +5,7 @@
  *    kilobyte: in it those of the last one may stand, until the next is made.
  *  - A stream that checks has it nowhere, nor has it there with each byte as a number of two, four or eight bytes.
  *  - No stream has it anywhere once other messages have come: what is made of these stands where texts are made.
+ * The same is asked of messages of at most eight bytes, whose bytes a decoder keeps as they are while pieces cut one.
  * All blocks of memory are looked through, to the end of what the allocator gave: link with --wrap=malloc, realloc and free. */
 #include "want.h"
 
@@ -70,6 +71,7 @@ void *__wrap_realloc(void *old, size_t size)
 
 enum { MESSAGES = 10, OTHERS = 30, TEXT = 24, MOST = 2048 };
 static const char text[] = "47 Long Lane; last house", other[] = "some words that are long";
+static size_t sought = TEXT; /* how many of its first bytes are looked for */
 
 typedef struct {
     uint8_t bytes[MOST];
@@ -106,11 +108,11 @@ static void make(fit_file *file)
 static size_t often(const uint8_t *bytes, size_t length, size_t width)
 {
     size_t found = 0;
-    for (size_t at = 0; at + (TEXT - 1) * width < length; at++) {
+    for (size_t at = 0; at + (sought - 1) * width < length; at++) {
         size_t same = 0;
-        while (same < TEXT && bytes[at + same * width] == (uint8_t)text[same])
+        while (same < sought && bytes[at + same * width] == (uint8_t)text[same])
             same++;
-        found += same == TEXT;
+        found += same == sought;
     }
     return found;
 }
@@ -204,6 +206,44 @@ static void handed_out_last(uint32_t kind, const fit_file *file, size_t size, ui
     gazhdor_close(&f.stream);
 }
 
+/* ---- messages of at most eight bytes */
+
+enum { DEFINED = 14 + 9 }; /* a header, and a definition of one field */
+
+/* As many record messages, each with so many bytes of a text alone. Returns how long the file is without its closing checksum. */
+static size_t make_short(uint8_t *bytes, uint8_t length)
+{
+    const uint8_t definition[] = { 0x40, 0, 0, 20, 0, 1, 200, length, 7 };
+    size_t data = sizeof definition + (size_t)(MESSAGES + OTHERS) * (1u + length);
+    const uint8_t head[] = { 14, 0x20, 0, 0, (uint8_t)data, (uint8_t)(data >> 8), 0, 0, '.', 'F', 'I', 'T', 0, 0 };
+    uint8_t *at = put(put(bytes, head, sizeof head), definition, sizeof definition);
+    for (int i = 0; i < MESSAGES + OTHERS; i++) {
+        *at++ = 0;
+        at = put(at, i < MESSAGES ? text : other, length);
+    }
+    return (size_t)(at - bytes);
+}
+
+/* A stream that checks has no text after a message that is whole, and no stream has it after the others. */
+static void handed_out_short(uint32_t kind, uint8_t length, size_t size)
+{
+    uint8_t bytes[MOST];
+    size_t whole = 1u + length, end = make_short(bytes, length), at = DEFINED;
+    feeding f = { kind, size, GAZHDOR_CLOSED_STREAM, 0 };
+    WANT_OF(gazhdor_open(&f.stream, kind).status == GAZHDOR_GOOD, "%s\n", kinds[kind].name);
+    sought = length;
+    feed(&f, bytes, DEFINED, GAZHDOR_GOOD);
+    for (; at < DEFINED + MESSAGES * whole; at += whole) {
+        feed(&f, bytes + at, whole, GAZHDOR_GOOD);
+        look(&f, "after a short message", kinds[kind].room, kind == GAZHDOR_STREAM_CHECK);
+    }
+    feed(&f, bytes + at, end - at, GAZHDOR_GOOD);
+    look(&f, "after all short messages", 0, 1);
+    WANT_OF(f.made == kinds[kind].made, "%s by %zu: %zu short texts made\n", kinds[kind].name, size, f.made);
+    gazhdor_close(&f.stream);
+    sought = TEXT;
+}
+
 /* A text that stands in memory is found, in each width: else nothing would be said. */
 static void found_where_it_is(void)
 {
@@ -228,5 +268,9 @@ int main(void)
                 handed_out(kind, &file, size, wrong);
                 handed_out_last(kind, &file, size, wrong);
             }
+    for (uint32_t kind = 0; kind < KINDS; kind++)
+        for (uint8_t length = 4; length < 8; length++)
+            for (size_t size = 1; size <= 9; size++)
+                handed_out_short(kind, length, size);
     return 0;
 }
