@@ -49,7 +49,14 @@ static void *one_stream(void *unused)
     return unused;
 }
 
-/* Puts blocks, one by one. */
+/* Whether what the reader is at is a message that doesn't describe developer fields. */
+static int is_other(const gazhdor_reader *at)
+{
+    return at->block.kind == GAZHDOR_MESSAGE && at->message != GAZHDOR_MESSAGE_FIELD_DESCRIPTION && at->message != GAZHDOR_MESSAGE_DEVELOPER_DATA_ID;
+}
+
+/* Puts blocks, one by one: all of them, or of kind 1 those of headers and of messages alone that don't describe developer fields, which are
+ * described before them. */
 static void *one_writer(void *unused)
 {
     gazhdor_writer writer = GAZHDOR_CLOSED_WRITER;
@@ -58,9 +65,9 @@ static void *one_writer(void *unused)
     for (gazhdor_reader at = gazhdor_read(blocks); answer.status == GAZHDOR_GOOD && gazhdor_next(&at);) {
         if (at.block.kind == GAZHDOR_FILE_HEADER)
             answer = gazhdor_writer_file(&writer, at.block.bytes, at.block.length);
-        else if (at.block.kind == GAZHDOR_DEFINITION)
+        else if (at.block.kind == GAZHDOR_DEFINITION && job.kind == 0)
             answer = gazhdor_writer_definition(&writer, at.block.bytes, at.block.length);
-        else if (at.block.kind == GAZHDOR_MESSAGE)
+        else if (is_other(&at) || (at.block.kind == GAZHDOR_MESSAGE && job.kind == 0))
             answer = gazhdor_writer_messages(&writer, at.definition.bytes, at.definition.length, at.block.bytes, at.block.length);
     }
     WANT(answer.status == GAZHDOR_GOOD && gazhdor_writer_finish(&writer, &text).status == GAZHDOR_GOOD);
@@ -136,6 +143,16 @@ static void see_spellings(gazhdor_text text)
     free(other);
 }
 
+/* A writer of the blocks of a file. */
+static void see_writer(const uint8_t *bytes, size_t length, uint32_t kind)
+{
+    gazhdor_text blocks = GAZHDOR_NO_TEXT;
+    gazhdor_messages(bytes, length, &blocks);
+    job.bytes = blocks.bytes, job.length = blocks.length, job.kind = kind;
+    see(&most_of_writers, one_writer);
+    gazhdor_free(blocks);
+}
+
 static void see_file(const uint8_t *bytes, size_t length)
 {
     static const size_t pieces[] = { 1, 100, 65536 };
@@ -152,8 +169,8 @@ static void see_file(const uint8_t *bytes, size_t length)
     gazhdor_text blocks = GAZHDOR_NO_TEXT;
     gazhdor_messages(bytes, length, &blocks);
     see_calls(blocks.bytes, blocks.length);
-    see(&most_of_writers, one_writer);
     gazhdor_free(blocks);
+    see_writer(bytes, length, 0);
 }
 
 /* ---- the greatest message, of 255 fields and 255 developer fields with names and units of 255 bytes */
@@ -163,6 +180,8 @@ static size_t put(uint8_t *bytes, size_t at, size_t count, const uint8_t *what)
     memcpy(bytes + at, what, count);
     return at + count;
 }
+
+enum { NAME_END = 12 + 21 + 4 + 254, UNIT_END = NAME_END + 255 };
 
 static size_t put_definitions(uint8_t *bytes, size_t at)
 {
@@ -194,6 +213,9 @@ static void see_the_greatest(void)
     at = with_checksum(bytes, at);
     WANT(gazhdor_check(bytes, at).status == GAZHDOR_GOOD);
     see_file(bytes, at);
+    /* With a zero at the end of name and unit, so that they can be described. */
+    bytes[NAME_END] = bytes[UNIT_END] = 0;
+    see_writer(bytes, with_checksum(bytes, at - 2), 1);
 }
 
 int main(int argc, char **argv)
@@ -204,6 +226,7 @@ int main(int argc, char **argv)
     for (int i = 1; i < argc; i++) {
         gazhdor_text file = file_of(argv[i], MOST);
         see_file(file.bytes, file.length);
+        see_writer(file.bytes, file.length, 1);
         free_file(file);
     }
     if (getenv("SAY") != NULL)

@@ -6,7 +6,7 @@ import random
 import unittest
 
 from support import known, recording
-from block_model import cut
+from block_model import DESCRIPTION, cut
 from fits import any_file
 from writer_calls import Both, OfLibrary, blocks_of, is_read_as, library
 from reader_model import Definition, read_chain
@@ -17,6 +17,7 @@ from gazhdor import _numbers as n
 
 FULL = os.environ.get("GAZHDOR_FULL") == "1"
 UINT8, UINT32 = 2, 0x86
+TIME = 10**9
 
 
 def begun(header=None):
@@ -60,6 +61,37 @@ class Refused(unittest.TestCase):
             found.add((is_refused, len(file.records) - before - (before > 0)))
             both.close()
         self.assertEqual(found, {(True, 0), (True, 1), (False, 2)})
+
+    def test_descriptions(self):
+        """Where memory is refused at any growth to a message whose developer fields are to be described, the first
+        messages that describe them may have been put, and the call again puts the others, each once."""
+        fields = [Field(k, UINT8, 1, 1, k // 2, b"n" * (k + 1), b"u") for k in range(4)]
+        made = definition(Plain(), 5, 0, 20, fields, True)
+        message = message_head(made.length, n.TOLD_HEADER_TIME, 0, 7, TIME) + bytes(made.length - n.AT_MESSAGE_ITEMS)
+        whole, left, growths = [207, 206, 206, 207, 206, 206, 20], [], itertools.count(1)
+        while (found := self.refused_once(made.block, message, next(growths))) is not None:
+            once, again = found
+            self.assertEqual((once, again), (whole[: len(once)], whole))
+            left.append(len(once))
+        self.assertEqual(set(left) - {len(whole)}, set(range(len(whole))))
+
+    def refused_once(self, block, message, growth):
+        """The messages that are read where a growth of memory is refused to a message, and where it is put again if it
+        wasn't; None where there is no such growth."""
+        found = []
+        for is_again in range(2):
+            both = begun()
+            both.writer.refused = growth
+            both.messages(block, message)
+            if both.writer.growths < growth:
+                both.close()
+                return None
+            if is_again and both.answers[-1].status == n.NO_MEMORY:
+                both.messages(block, message)
+            (file,) = read_chain(both.finish())
+            found.append([reading.message for reading in file.readings])
+            both.close()
+        return found
 
     def test_finish(self):
         """Where memory is refused to the end of a file, it has ended or not; the next end makes the bytes."""
@@ -148,15 +180,35 @@ class Turns(unittest.TestCase):
             both.finish()
             both.close()
 
+    def test_left(self):
+        """A definition message that stays where memory was refused isn't a use: the next new one takes its place."""
+        made, left = self.made(17), 0
+        describing = definition(Plain(), 0, 0, DESCRIPTION, [Field(number, UINT8, 1, 1) for number in range(3)], False)
+        for growth in itertools.count(1):
+            both = begun()
+            for one in made[:16]:
+                both.messages(one.block, message_of(one))
+            both.writer.refused = growth
+            both.messages(describing.block, message_of(describing))
+            is_over = both.writer.growths < growth
+            for one in (made[16], describing, *made):
+                both.messages(one.block, message_of(one))
+            kinds = [type(record) for record in read_chain(both.finish())[0].records]
+            left += (Definition, Definition) in zip(kinds, kinds[1:])
+            both.close()
+            if is_over:
+                break
+        self.assertGreater(left, 0)
+
 
 # ---- laws
 
 
-def chains():
+def chains(size="10k"):
     """Known files, recordings of each kind, and random chains."""
     yield from known().items()
-    for kind in ("plain", "developer", "compressed", "turns", "definitions", "strings"):
-        with open(recording(kind, "10k"), "rb") as file:
+    for kind in ("plain", "developer", "compressed", "turns", "definitions", "strings", "interleaved", "small"):
+        with open(recording(kind, size), "rb") as file:
             yield kind, file.read()
     r = random.Random(8)
     for k in range(300 if FULL else 20):
@@ -214,30 +266,51 @@ class Laws(unittest.TestCase):
         for name, data in chains():
             for part in (0.9, 0.3):
                 with self.subTest(chain=name, part=part):
-                    self.select(r, data, part)
+                    self.select([data], lambda k: r.random() < part)
 
-    def select(self, r, data, part):
-        both, wanted = Both(), []
-        readings = iter([reading for file in read_chain(data) for reading in file.readings])
+    def test_cut_in_two(self):
+        """The first messages of a chain and the others, each in a chain of its own, and these put together, in one file
+        and in their files, are read as they were."""
+        r = random.Random(10)
+        for name, data in chains("2k"):
+            with self.subTest(chain=name):
+                count = sum(len(file.readings) for file in read_chain(data))
+                at = r.randrange(count + 1)
+                halves = [self.select([data], of) for of in (lambda k: k < at, lambda k: k >= at)]
+                self.select(halves, lambda k: True)
+                self.select(halves, lambda k: True, is_one=True)
+
+    def select(self, chains, is_chosen, is_one=False):
+        """Puts the chosen messages of chains, in their files or all in one. Returns the bytes."""
+        both, wanted, number = Both(), [], itertools.count()
         both.open()
-        for block, own in blocks_one_by_one(data):
-            reading = next(readings) if own is not None else None
-            if block[n.AT_KIND] == n.FILE_HEADER:
-                both.put("file", block)
-            elif reading is not None and r.random() < part:
-                both.messages(own, block)
-                if both.answers[-1].status == n.GOOD:
-                    wanted.append(reading)
-                else:
-                    self.assertEqual(both.answers[-1].reason, writer_model.DESCRIBED)
-                    self.assertTrue(any(map(is_undescribable, writer_model.form_in(own).described)))
-        found = [reading for file in read_chain(both.finish()) for reading in file.readings]
+        for data in chains:
+            readings = iter([reading for file in read_chain(data) for reading in file.readings])
+            for block, own in blocks_one_by_one(data):
+                if block[n.AT_KIND] == n.FILE_HEADER and not (is_one and both.may_be[0].current):
+                    both.put("file", block)
+                elif own is not None:
+                    self.put(both, wanted, own, block, next(readings), is_chosen(next(number)))
+        data = both.finish()
         both.close()
+        found = [reading for file in read_chain(data) for reading in file.readings]
         for reading in wanted:
             while not is_read_as(reading, found[0]):
                 self.assertTrue(is_read_as(None, found.pop(0)))
             found.pop(0)
         self.assertTrue(all(is_read_as(None, reading) for reading in found))
+        return data
+
+    def put(self, both, wanted, own, block, reading, is_chosen):
+        """Puts a message, if it is chosen; it isn't refused, unless it can't be described."""
+        if not is_chosen:
+            return
+        both.messages(own, block)
+        if both.answers[-1].status == n.GOOD:
+            wanted.append(reading)
+        else:
+            self.assertEqual(both.answers[-1].reason, writer_model.DESCRIBED)
+            self.assertTrue(any(map(is_undescribable, writer_model.form_in(own).described)))
 
 
 def is_undescribable(told):

@@ -67,14 +67,14 @@ class OfLibrary:
     """A writer of the library."""
 
     def __init__(self):
-        # which growth of memory the next call is refused; of how many messages the amounts are read as in their blocks,
-        # of all and of the last call
-        self.at, self.refused, self.told, self.last_told = ctypes.c_void_p(), 0, 0, 0
+        # which growth of memory the next call is refused, and how many the last one had; of how many messages the
+        # amounts are read as in their blocks, of all and of the last call
+        self.at, self.refused, self.growths, self.told, self.last_told = ctypes.c_void_p(), 0, 0, 0, 0
 
     def answer(self, name, *words):
         library().refuse_growth(self.refused)
         answer = getattr(library(), "gazhdor_writer_" + name)(self.at, *words)
-        library().refuse_growth(0)
+        self.growths = library().refuse_growth(0)
         self.refused = 0
         assert answer.files <= answer.row
         self.told, self.last_told = self.told + answer.files, answer.files
