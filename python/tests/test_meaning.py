@@ -163,6 +163,9 @@ class Names(unittest.TestCase):
             for application in (b"", b"short", bytes(17), "x" * 16, 16):
                 with self.assertRaisesRegex(ValueError, "16 bytes"):
                     out.describe("power", application=application)
+            for native in (("record",), (), "record", 7, ("record", 7, 1)):
+                with self.assertRaisesRegex(ValueError, "a message and a number"):
+                    out.describe("power", native=native)
             field = out.describe("power", application=bytes(range(16)))
             for value in (10**400, -(10**400), decimal.Decimal("1e999999"), 2**64):
                 for write in (record.write, lambda heart_rate: record.columns(heart_rate=[heart_rate] * 5000)):

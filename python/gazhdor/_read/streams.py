@@ -19,7 +19,7 @@ from .messages import Message, messages_of
 
 Made = TypeVar("Made", str, bytes, list[Message])
 
-_SHORT, _FEW = 1 << 15, 1 << 12
+_SHORT, _FEW, _TOGETHER = 1 << 15, 1 << 12, 1 << 14
 
 _KINDS = {
     "check": STREAM_CHECK,
@@ -344,6 +344,21 @@ class Files:
         if not self._is_short:
             return messages(self._data, only=numbers, names=EXTRA, partial=not self._first())
         return (event for event in self.events() if type(event) is Message and event.number in numbers)
+
+
+def chained(data: bytes) -> Iterator[bytes]:
+    """The files of a chain, one after another, and short ones together, up to so many bytes. A fault is raised before
+    the first."""
+    judge(check(data))
+    begin = at = 0
+    while at < len(data):
+        # header, data section and checksum
+        end = at + data[at] + int.from_bytes(data[at + 4 : at + 8], "little") + 2
+        if at > begin and end - begin > _TOGETHER:
+            yield data[begin:at]
+            begin = at
+        at = end
+    yield data[begin:]
 
 
 def rows(source: Source, partial: bool) -> Iterator[list[str]]:

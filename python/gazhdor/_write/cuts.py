@@ -17,11 +17,11 @@ from .summaries import (
     Anew,
     Outline,
     Summary,
+    activity_in,
     activity_of,
-    number_of,
     outlines,
-    sport_of,
 )
+from .told import Told, span_of, sport_of
 
 _STAYS = (0, DESCRIPTION, DEVELOPER_DATA)  # the file_id
 _ZONES = 216  # time_in_zone, which is of a session or a lap
@@ -60,6 +60,24 @@ class Inner(NamedTuple):
     last: Optional[int]
 
 
+class _Inside(NamedTuple):
+    """What a lap or a session that is cut comes to in the span, and the first and the last second of that."""
+
+    summary: Summary
+    start: int
+    end: int
+
+
+class _Laps(NamedTuple):
+    """Of some laps: how many stay, the number of the first of these, how long the timer ran in them; and where the last
+    of all of them ends, if there is one."""
+
+    count: int
+    first: Any
+    ran: float
+    end: Optional[int]
+
+
 class Part:
     """What stays of a file. Its records are taken in first, and then each of its messages is asked for."""
 
@@ -67,43 +85,38 @@ class Part:
         self._span, self._outline = span, outline
         self._all = Summary()
         # whether a lap, and a session, has more in the span than the second with which it ends or begins
-        self._overlap = {number: any(map(self._overlaps, outline.of[number])) for number in (LAP, SESSION)}
+        self._overlap = {of: any(span.overlaps(*told) for told in outline.of(of).spans()) for of in (LAP, SESSION)}
         # of the laps and sessions that are cut, the part of each
         self._cut: dict[Inner, Summary] = {}
-        for message in (*outline.of[LAP], *outline.of[SESSION]):
-            if self._is_cut(message):
-                self._cut.setdefault(self._inner(message), Summary())
-        if len(self._cut) > _MOST:
-            raise ValueError(f"over {_MOST} laps and sessions begin before the span, or end after it")
+        for number in (LAP, SESSION):
+            for told in outline.of(number).spans():
+                if self._is_in(number, told) and not span.has_all(*told):
+                    self._cuts(self._inner(told))
         # the time of the last record that was taken in, and of the last message that was asked for
         self._record_time: Optional[int] = None
         self._time: Optional[int] = None
         # whether a record stays, and whether one before it was left out
         self._has_record = self._is_later = False
         self._odometer: Optional[Odometer] = None
-        # the laps and sessions that stay as they are, by their numbers; and of each sport whether a session stays
-        self._wholes: Optional[set[tuple[int, Any]]] = None
+        self._sports_asked = 0
+        # of laps and sessions that stay as they are the numbers; and of each sport whether a session stays
+        self._wholes: Optional[dict[Any, set[Any]]] = None
         self._sports: Optional[dict[Any, bool]] = None
-        self._made: Optional[dict[int, Optional[Anew]]] = None
+        # whether all sessions stay as they are, how many stay, where the last one ends, and how long the timer ran
+        self._sessions_end: Optional[tuple[bool, int, int, float]] = None
 
-    def _span_of(self, message: Message) -> tuple[int, int]:
-        return self._outline.spans[message.place]
+    def _cuts(self, inner: Inner) -> None:
+        if inner not in self._cut and len(self._cut) == _MOST:
+            raise ValueError(f"over {_MOST} laps and sessions begin before the span, or end after it")
+        self._cut.setdefault(inner, Summary())
 
-    def _overlaps(self, message: Message) -> bool:
-        return self._span.overlaps(*self._span_of(message))
-
-    def _is_in(self, message: Message) -> bool:
+    def _is_in(self, number: int, told: tuple[int, int]) -> bool:
         """Whether a lap or a session has a part in the span: the second with which it begins or ends, if that is all
         that there is of any."""
-        if self._overlap[message.number]:
-            return self._overlaps(message)
-        return self._span.touches(*self._span_of(message))
+        return self._span.overlaps(*told) if self._overlap[number] else self._span.touches(*told)
 
-    def _is_cut(self, message: Message) -> bool:
-        return self._is_in(message) and not self._span.has_all(*self._span_of(message))
-
-    def _inner(self, message: Message) -> Inner:
-        first, last = self._span_of(message)
+    def _inner(self, told: tuple[int, int]) -> Inner:
+        first, last = told
         return Inner(first if self._span.has(first) else None, last if self._span.has(last) else None)
 
     def take(self, record: Message) -> None:
@@ -130,9 +143,15 @@ class Part:
             return message
         seconds = message.seconds
         self._time = self._time if seconds is None else seconds
-        if number in (SPORT, ACTIVITY) or message.place in self._outline.spans:
-            made = self._of_summaries()
-            return made.get(message.place) if message.place in made else message
+        if number == SPORT:
+            self._sports_asked += 1
+            return message if self._has_sport(self._sports_asked - 1, message) else None
+        if number == ACTIVITY:
+            return self._activity(message)
+        told = span_of(message) if number in (LAP, SESSION) else None
+        if told:
+            anew = self._lap if number == LAP else self._session
+            return message if self._span.has_all(*told) else anew(message, told)
         if number == _ZONES and not self._is_of_whole(message):
             return None
         if self._time is None or self._stays(message, self._time):
@@ -157,76 +176,76 @@ class Part:
     def _is_of_whole(self, message: Message) -> bool:
         """Whether the lap or the session that a message is of stays as it is."""
         if self._wholes is None:
-            told = (*self._outline.of[LAP], *self._outline.of[SESSION])
-            self._wholes = {(of.number, of.get("message_index")) for of in told if self._is_whole(of)}
-        return (message.get(0), message.get(1)) in self._wholes
+            self._wholes = {number: self._wholes_of(self._outline.of(number)) for number in (LAP, SESSION)}
+        return message.get(1) in self._wholes.get(message.get(0), ())
+
+    def _wholes_of(self, told: Told) -> set[Any]:
+        return {told.index(row) for row in range(len(told)) if self._span.has_all(*told.span(row))}
 
     # ---- what is made anew
 
-    def _of_summaries(self) -> dict[int, Optional[Anew]]:
-        """The laps, sessions, sports and activities that don't stay as they are, by their places."""
-        if self._made is None:
-            made: dict[int, Optional[Anew]] = {}
-            told = self._outline.of
-            made.update((lap.place, self._lap(lap)) for lap in told[LAP] if not self._is_whole(lap))
-            made.update((of.place, self._session(of, made)) for of in told[SESSION] if not self._is_whole(of))
-            made.update((of.place, None) for number, of in enumerate(told[SPORT]) if not self._has_sport(number, of))
-            if not told[SESSION]:
-                made.update((of.place, None) for of in told[ACTIVITY])
-            elif any(of.place in made for of in told[SESSION]):
-                made.update((of.place, self._activity(made, of)) for of in told[ACTIVITY])
-            self._made = made
-        return self._made
-
-    def _is_whole(self, message: Message) -> bool:
-        return self._span.has_all(*self._span_of(message))
-
-    def _lap(self, lap: Message) -> Optional[Anew]:
-        """What a lap comes to in the span."""
-        summary = self._cut.get(self._inner(lap)) if self._is_in(lap) else None
+    def _inside(self, number: int, told: tuple[int, int]) -> Optional[_Inside]:
+        """What a lap or a session that is cut comes to; None where nothing of it is there."""
+        inner = self._inner(told)
+        summary = self._cut.get(inner) if self._is_in(number, told) else None
         if summary is None or summary.start is None:
             return None
-        first, last = self._inner(lap)
-        start, end = summary.start if first is None else first, summary.end if last is None else last
+        start, end = inner
+        return _Inside(summary, summary.start if start is None else start, summary.end if end is None else end)
+
+    def _lap(self, lap: Message, told: tuple[int, int]) -> Optional[Anew]:
+        inside = self._inside(LAP, told)
+        if inside is None:
+            return None
+        summary, start, end = inside
         values = summary.lap(start, end, self._outline.timer.ran(start, end))
-        own = _own(lap, LAP_ENDS)
-        return Anew("lap", {**values, **own, **self._calories(lap)})
+        return Anew("lap", {**values, **_own(lap, LAP_ENDS), **self._calories(lap, told)})
 
-    def _session(self, session: Message, made: dict[int, Optional[Anew]]) -> Optional[Anew]:
-        """What a session comes to: its timer is that of its laps, where it has some."""
-        summary = self._cut.get(self._inner(session)) if self._is_in(session) else None
-        if summary is None or summary.start is None:
+    def _session(self, session: Message, told: tuple[int, int]) -> Optional[Anew]:
+        """What a session comes to: its timer is that of its laps, where it has some, and of what comes after them."""
+        inside = self._inside(SESSION, told)
+        if inside is None:
             return None
-        first, last = self._inner(session)
-        start, end = summary.start if first is None else first, summary.end if last is None else last
-        begin, over = self._span_of(session)
-        laps = [lap for lap in self._outline.of[LAP] if begin <= self._span_of(lap)[0] < max(over, begin + 1)]
-        timers = {lap.place: self._timer(lap, made) for lap in laps if made.get(lap.place, lap) is not None}
-        ran = sum(timers.values()) + self._outline.timer.ran(self._laps_end(laps, start, end) if timers else start, end)
-        counts = {}
-        if timers:
-            index = next(lap.get("message_index", 0) for lap in laps if lap.place in timers)
-            counts = {"first_lap_index": index, "num_laps": len(timers)}
+        summary, start, end = inside
+        laps = self._laps_of(told, start, end)
+        counts = {"first_lap_index": laps.first, "num_laps": laps.count} if laps.count else {}
         own = _own(session, SESSION_ENDS)
-        values = {**summary.told(start, end, ran), **own, **sport_of(session), **counts}
-        return Anew("session", {**values, **self._calories(session)})
+        values = {**summary.told(start, end, laps.ran), **own, **sport_of(session), **counts}
+        return Anew("session", {**values, **self._calories(session, told)})
 
-    def _laps_end(self, laps: list[Message], start: int, end: int) -> int:
-        """Where the last one of some laps ends in a span."""
-        spans = (self._span_of(lap) for lap in laps)
-        return max(start, *(min(last, end) for first, last in (*spans, (start, start)) if first <= end))
+    def _laps_of(self, told: tuple[int, int], start: int, end: int) -> _Laps:
+        """The laps of a session up to an end; the timer is that after them, too."""
+        begin, over = told
+        laps = self._laps(lambda first: begin <= first < max(over, begin + 1), end)
+        since = start if not laps.count or laps.end is None else max(start, laps.end)
+        return laps._replace(ran=laps.ran + self._outline.timer.ran(since, end))
 
-    def _timer(self, message: Message, made: dict[int, Optional[Anew]]) -> float:
-        """How long the timer ran in a lap, or a session, that stays."""
-        anew = made.get(message.place)
-        told = anew.values["total_timer_time"] if anew else number_of(message, "total_timer_time")
-        return float(self._outline.timer.ran(*self._span_of(message)) if told is None else told)
+    def _laps(self, is_one: Callable[[int], bool], until: Optional[int] = None) -> _Laps:
+        """Some laps, by their first seconds, up to an end."""
+        count, index, ran, over = 0, 0, 0.0, None
+        for row, (first, last) in enumerate(self._outline.laps.spans()):
+            if not is_one(first):
+                continue
+            if until is not None and first <= until:
+                over = min(last, until) if over is None else max(over, min(last, until))
+            of_lap = self._lap_ran(row, (first, last))
+            if of_lap is not None:
+                index = index if count else self._outline.laps.index(row, 0)
+                count, ran = count + 1, ran + of_lap
+        return _Laps(count, index, ran, over)
 
-    def _calories(self, message: Message) -> dict[str, int]:
+    def _lap_ran(self, row: int, told: tuple[int, int]) -> Optional[float]:
+        """How long the timer ran in what stays of a lap; None where nothing does."""
+        if self._span.has_all(*told):
+            return self._outline.lap_ran(row)
+        inside = self._inside(LAP, told)
+        return None if inside is None else float(self._outline.timer.ran(inside.start, inside.end))
+
+    def _calories(self, message: Message, of: tuple[int, int]) -> dict[str, int]:
         """The calories of a lap or a session that is cut: as many as its part of the time in which the timer ran, so
         that those of all parts are those of the whole."""
         told, timer = message.get(_CALORIES), self._outline.timer
-        first, last = self._span_of(message)
+        first, last = of
         whole = timer.ran(first, last)
         if not isinstance(told, int):
             return {}
@@ -244,38 +263,53 @@ class Part:
 
     def _has_sport(self, number: int, message: Message) -> bool:
         """Whether a session stays that has this sport: the one with its number, where there is one for each."""
-        sessions = self._outline.of[SESSION]
-        if len(sessions) == len(self._outline.of[SPORT]):
-            return self._is_in(sessions[number])
+        sessions = self._outline.sessions
+        if len(sessions) == self._outline.sports:
+            return self._is_in(SESSION, sessions.span(number))
         if self._sports is None:
             self._sports = {}
-            for session in sessions:
-                sport = tuple(sport_of(session).items())
-                self._sports[sport] = self._sports.get(sport, False) or self._is_in(session)
+            for row, told in enumerate(sessions.spans()):
+                sport = tuple(sessions.sport(row).items())
+                self._sports[sport] = self._sports.get(sport, False) or self._is_in(SESSION, told)
         return self._sports.get(tuple(sport_of(message).items()), True)
 
-    def _activity(self, made: dict[int, Optional[Anew]], told: Message) -> Anew:
-        stay = [(of, made.get(of.place)) for of in self._outline.of[SESSION] if made.get(of.place, of) is not None]
-        ends = [anew.values["timestamp"] if anew else self._span_of(of)[1] for of, anew in stay]
-        timers = [self._timer(of, made) for of, _ in stay]
-        return activity_of(max(ends, default=self._all.end), timers, self._outline.zone, told)
+    def _activity(self, message: Message) -> Union[Message, Anew, None]:
+        """The activity message: none without a session; itself where all of them stay as they are."""
+        if not len(self._outline.sessions):
+            return None
+        if self._sessions_end is None:
+            self._sessions_end = self._sessions()
+        are_all, count, end, ran = self._sessions_end
+        return message if are_all else activity_of(end, count, ran, self._outline.zone, activity_in(message))
+
+    def _sessions(self) -> tuple[bool, int, int, float]:
+        sessions, are_all, ends, ran = self._outline.sessions, True, None, 0.0
+        count = 0
+        for row, told in enumerate(sessions.spans()):
+            inside = None
+            if self._span.has_all(*told):
+                timer = sessions.timer(row)
+                of, end = float(self._outline.timer.ran(*told)) if timer is None else timer, told[1]
+            else:
+                are_all, inside = False, self._inside(SESSION, told)
+                if inside is None:
+                    continue
+                of, end = self._laps_of(told, inside.start, inside.end).ran, inside.end
+            count, ran, ends = count + 1, ran + of, end if ends is None else max(ends, end)
+        return are_all, count, self._all.end if ends is None else ends, ran
 
     def rest(self) -> list[Anew]:
         """What a file gets at its end that has records in the span, and no session: a lap, where it has none, a session
         and an activity."""
         all, told = self._all, self._outline
-        if all.start is None or told.of[SESSION]:
+        if all.start is None or len(told.sessions):
             return []
-        made = self._of_summaries()
-        laps = [lap for lap in told.of[LAP] if made.get(lap.place, lap) is not None]
-        start, end = all.start, all.end
-        ran = sum(self._timer(lap, made) for lap in laps) if laps else told.timer.ran(start, end)
-        first = [] if laps else [Anew("lap", {"message_index": 0, **all.lap(start, end, ran), **LAP_ENDS})]
-        index = laps[0].get("message_index", 0) if laps else 0
-        counts = {"first_lap_index": index, "num_laps": max(len(laps), 1)}
+        start, end, laps = all.start, all.end, self._laps(lambda first: True)
+        ran = laps.ran if laps.count else told.timer.ran(start, end)
+        first = [] if laps.count else [Anew("lap", {"message_index": 0, **all.lap(start, end, ran), **LAP_ENDS})]
+        counts = {"first_lap_index": laps.first, "num_laps": max(laps.count, 1)}
         session = {"message_index": 0, **all.told(start, end, ran), **told.sport, **counts, **SESSION_ENDS}
-        activity = activity_of(end, [ran], told.zone, next(iter(told.of[ACTIVITY]), None))
-        return [*first, Anew("session", session), activity]
+        return [*first, Anew("session", session), activity_of(end, 1, ran, told.zone, told.activity)]
 
 
 def _own(message: Message, usual: dict[str, int]) -> dict[str, int]:

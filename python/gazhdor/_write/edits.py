@@ -1,7 +1,7 @@
 """Changes of whole files: fields emptied, times moved, a part cut out."""
 import datetime
 import re
-from collections.abc import Iterable
+from collections.abc import Iterable, Iterator
 from typing import NamedTuple, Optional, Union
 
 from .._names import EXTRA
@@ -24,7 +24,7 @@ from .._numbers import (
 from .._profile import UnknownName, number_of, profile
 from .._read.events import FileEnd
 from .._read.messages import Message
-from .._read.streams import Files, messages
+from .._read.streams import Files, chained, messages
 from .._read.values import Definition, Entry
 from .._sources import Source, bytes_of
 from .._times import EPOCH, HEADER_TIME, OWN_TIME, SYSTEM_TIMES
@@ -35,7 +35,7 @@ from .items import Packer
 from .places import is_place
 from .sinks import Sink
 from .summaries import RECORD, Anew
-from .writer import Writer
+from .writer import Copies, Writer
 
 _POSITION = "position"
 _TIMES = ("timestamp", "start_time", "local_timestamp")
@@ -273,24 +273,52 @@ def _second(time: Union[None, int, str, datetime.datetime]) -> Optional[int]:
 
 def change(source: Source, sink: Sink, change: Change) -> Counts:
     """Does what `edit` says."""
-    editor, cut = _Editor(change), None
-    if change.is_cut:
-        files = Files(bytes_of(source))
-        cut = Cut(files, Span(change.begin, change.end), _Editor(change._replace(shift=0)).changed)
-        if cut.is_empty:
-            raise ValueError("no record has a time in that span")
-    events = messages(source, names=EXTRA, everything=True) if cut is None else files.events()
-    with Writer(sink, EXTRA) as out:
-        for event in events:
-            if isinstance(event, Message):
-                editor.put(event if cut is None else cut.of(event.file).kept(editor.untold(event)), out)
-                continue
-            if cut is not None and isinstance(event, FileEnd):
-                for anew in cut.of(event.file).rest():
-                    editor.put(anew, out)
-            out.copy(event)
+    editor = _Editor(change)
+    with Copies(sink, EXTRA) as out:
+        if change.is_cut:
+            for files, cut in _cuts(bytes_of(source), change):
+                _put_cut(files, cut, editor, out)
+        else:
+            for event in messages(source, names=EXTRA, everything=True):
+                if isinstance(event, Message):
+                    editor.put(event, out)
+                else:
+                    out.copy(event)
         editor.see_met()
     return editor.counts
+
+
+def _cuts(data: bytes, change: Change) -> Iterator[tuple[Files, Cut]]:
+    """The files of a chain, and what stays of each. It raises ValueError where nothing does of any."""
+    span, changed = Span(change.begin, change.end), _Editor(change._replace(shift=0)).changed
+
+    def read(some: bytes) -> tuple[Files, Cut]:
+        files = Files(some)
+        return files, Cut(files, span, changed)
+
+    parts, before = chained(data), []
+    for some in parts:
+        found = read(some)
+        if not found[1].is_empty:
+            break
+        before.append(some)
+    else:
+        raise ValueError("no record has a time in that span")
+    yield from map(read, before)
+    yield found
+    del found  # Nothing of it is held any more.
+    yield from map(read, parts)
+
+
+def _put_cut(files: Files, cut: Cut, editor: _Editor, out: Writer) -> None:
+    for event in files.events():
+        if isinstance(event, Message):
+            editor.put(cut.of(event.file).kept(editor.untold(event)), out)
+            continue
+        if isinstance(event, FileEnd):
+            for anew in cut.of(event.file).rest():
+                editor.put(anew, out)
+        out.copy(event)
 
 
 def time_of(word: str) -> int:

@@ -5,14 +5,13 @@ from typing import Any, Optional
 from .._names import EXTRA
 from .._read.events import FileEnd, FileHeader
 from .._read.messages import Message
-from .._read.streams import Files, messages
+from .._read.streams import Files, chained, messages
 from .._sources import Source, bytes_of
 from .describing import NotDescribed
 from .distances import Odometer
 from .sinks import Sink
 from .summaries import (
     ACTIVITY,
-    ADDED,
     INDEX,
     LAP,
     LENGTH,
@@ -25,10 +24,9 @@ from .summaries import (
     Summary,
     activity_of,
     outlines,
-    span_of,
-    timer_of,
 )
-from .writer import Writer
+from .told import ADDED, Counted
+from .writer import Copies, Writer
 
 _FILE_ID = (0, 49)  # file_id, file_creator
 _ZONES, _OF, _OF_INDEX = 216, 0, 1  # time_in_zone: what it is of, and the number of that
@@ -40,11 +38,12 @@ def join(sources: Iterable[Source], sink: Sink, one: bool = False) -> None:
     the first, the laps of all, distances that go on, and a session and an activity made anew by what laps and records
     say. A file without laps becomes a lap. It raises ValueError where a file begins before the one before it ends, or
     has a developer field that it doesn't describe."""
-    with Writer(sink, EXTRA) as out:
+    with Copies(sink, EXTRA) as out:
         if one:
             joined = _Joined(out)
             for number, source in enumerate(sources, 1):
-                joined.add(Files(bytes_of(source)), number)
+                for some in chained(bytes_of(source)):
+                    joined.add(Files(some), number)
             joined.end()
             return
         for source in sources:
@@ -58,15 +57,14 @@ class _Added(Ride):
     def __init__(self, number: int, told: Outline, odometer: Optional[Odometer], before: Optional[int]) -> None:
         super().__init__(told)
         self.number, self.odometer, self.before = number, odometer, before
-        # of its laps and of its lengths the numbers that they get, by those that they have
-        self.numbers: dict[int, dict[Any, int]] = {}
+        # so many laps and lengths come before its own
+        self.firsts: dict[int, int] = {}
 
-    def count(self, counts: dict[int, int]) -> None:
-        """Gives its laps and lengths the numbers after so many of each."""
-        for kind, indices in self.told.indices.items():
-            new = range(counts[kind], counts[kind] + len(indices))
-            # of several with one number the first counts
-            self.numbers[kind] = dict(reversed([*zip(indices, new)]))
+    def named(self, kind: int, index: Any) -> Optional[int]:
+        """The number that a lap, or a length, gets which has that number; None where there is no such one."""
+        counted: Counted = self.told.counted[kind]
+        at = counted.get(index)
+        return None if at is None else self.firsts[kind] + at
 
     def moved(self, record: Message) -> Message:
         """A record as it goes on from the file before."""
@@ -85,7 +83,7 @@ class _Joined:
         self._first: Optional[Outline] = None
         # how many laps and lengths there are, the first and the last second of all, and how long the timer ran
         self._counts = {LAP: 0, LENGTH: 0}
-        self._spans: list[tuple[int, int]] = []
+        self._span: Optional[tuple[int, int]] = None
         self._ran = 0.0
         self._added: dict[str, Optional[float]] = dict.fromkeys(ADDED, 0)
 
@@ -109,7 +107,7 @@ class _Joined:
             self._out.copy(header)
         ride = _Added(number, told, None if self._first is None else Odometer(self._all.last_distance), before)
         self._first = self._first or told
-        ride.count(self._counts)
+        ride.firsts.update(self._counts)
         return ride
 
     def _put(self, message: Message, ride: _Added) -> None:
@@ -133,9 +131,9 @@ class _Joined:
             message = message.replace({INDEX: self._counts[kind]}) if index and index.is_number else message
             self._counts[kind] += 1
         if kind == LAP and message.get(_FIRST_LENGTH) is not None:
-            return _naming(message, _FIRST_LENGTH, ride.numbers[LENGTH])
+            return message.replace({_FIRST_LENGTH: ride.named(LENGTH, message.get(_FIRST_LENGTH))})
         if kind == _ZONES and message.get(_OF) == LAP and message.get(_OF_INDEX) is not None:
-            return _naming(message, _OF_INDEX, ride.numbers[LAP])
+            return message.replace({_OF_INDEX: ride.named(LAP, message.get(_OF_INDEX))})
         return message
 
     def _end(self, ride: _Added) -> None:
@@ -143,8 +141,9 @@ class _Joined:
         records, told = ride.all, ride.told
         if records.start is None:
             return
-        self._spans += [(records.start, records.end), *ride.spans]
-        self._ran += sum(timer_of(lap, told.timer.ran(*(span_of(lap) or (0, 0)))) for lap in told.of[LAP])
+        spans = [span for span in (self._span, told.span, (records.start, records.end)) if span]
+        self._span = min(first for first, _ in spans), max(last for _, last in spans)
+        self._ran += told.laps_ran
         last = ride.last_lap(self._counts[LAP])
         if last:
             last.write(self._out)
@@ -156,18 +155,13 @@ class _Joined:
 
     def end(self) -> None:
         """Writes the session and the activity, where there are records with times."""
-        if self._first is None or self._all.start is None:
+        if self._first is None or self._span is None:
             return
-        start, end = min(first for first, _ in self._spans), max(last for _, last in self._spans)
+        start, end = self._span
         counts = {"first_lap_index": 0, "num_laps": self._counts[LAP]}
         values = {"message_index": 0, **self._all.told(start, end, self._ran), **self._first.sport, **counts}
         Anew("session", {**values, **_whole(self._added), **SESSION_ENDS}).write(self._out)
-        activity_of(end, [self._ran], self._first.zone).write(self._out)
-
-
-def _naming(message: Message, field: int, numbers: dict[Any, int]) -> Message:
-    """A message that names another one by the number that this gets; it has none where there is no such one."""
-    return message.replace({field: numbers.get(message.get(field))})
+        activity_of(end, 1, self._ran, self._first.zone).write(self._out)
 
 
 def _whole(values: dict[str, Optional[float]]) -> dict[str, int]:

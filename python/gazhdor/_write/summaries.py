@@ -1,8 +1,7 @@
 """What the records of a ride say as a whole, and what a file says of itself: its sessions, its laps, its activity."""
 import bisect
 import itertools
-import math
-from collections.abc import Iterable
+from array import array
 from typing import Any, NamedTuple, Optional
 
 from .._numbers import NO_TIME
@@ -10,6 +9,7 @@ from .._read.messages import Message
 from .._read.streams import Files
 from .._times import SYSTEM_TIMES
 from ..errors import WrongValue
+from .told import ADDED, Counted, Told, number_of, sport_of
 from .writer import Writer
 
 LAP, SESSION, RECORD, EVENT, SPORT, ACTIVITY, LENGTH = 19, 18, 20, 21, 12, 34, 101
@@ -21,37 +21,45 @@ _EVER = 1 << 40  # more seconds than a file can tell
 LAP_ENDS = {"event": _OF_LAP, "event_type": STOP, "lap_trigger": 7}
 SESSION_ENDS = {"event": _OF_SESSION, "event_type": STOP, "trigger": 0}
 _MEANS = ("heart_rate", "cadence", "power")
-# What adds up where rides are put together.
-ADDED = ("total_calories", "total_ascent", "total_descent", "total_cycles")
 
 
 class Timer:
     """How many seconds the timer ran, by its events; all the time where there are none."""
 
     def __init__(self) -> None:
-        self._events: list[tuple[int, int]] = []
+        # of each event its second, and whether the timer starts
+        self._times, self._starts, self._is_in_order = array("q"), bytearray(), True
         # of each time in which it ran the beginning and the end, and how long it ran before
-        self._ran: Optional[tuple[list[int], list[int], list[int]]] = None
+        self._ran: "Optional[tuple[array[int], array[int], array[int]]]" = None
 
     def take(self, message: Message) -> None:
-        if message.get(0) == _TIMER and message.seconds is not None and message.get(1) in (START, *STOPS):
-            self._events.append((message.seconds, message[1]))
+        seconds = message.seconds
+        if message.get(0) == _TIMER and seconds is not None and message.get(1) in (START, *STOPS):
+            self._is_in_order = self._is_in_order and (not self._times or self._times[-1] <= seconds)
+            self._times.append(seconds)
+            self._starts.append(message[1] == START)
             self._ran = None
 
-    def _found(self) -> tuple[list[int], list[int], list[int]]:
+    def _order(self) -> None:
+        """Puts the events in the order of their times."""
+        if not self._is_in_order:
+            order = sorted(range(len(self._times)), key=self._times.__getitem__)
+            self._times = array("q", (self._times[row] for row in order))
+            self._starts, self._is_in_order = bytearray(self._starts[row] for row in order), True
+
+    def _found(self) -> "tuple[array[int], array[int], array[int]]":
         if self._ran is None:
-            begins: list[int] = []
-            ends: list[int] = []
-            events = sorted(self._events, key=lambda event: event[0])
-            since: Optional[int] = None if events and events[0][1] == START else -_EVER
-            for time, kind in (*events, (_EVER, STOP)):
-                if kind == START:
+            self._order()
+            begins, ends, before = array("q"), array("q"), array("q", [0])
+            since: Optional[int] = None if self._starts and self._starts[0] else -_EVER
+            for time, starts in zip(itertools.chain(self._times, [_EVER]), itertools.chain(self._starts, [False])):
+                if starts:
                     since = time if since is None else since
                 elif since is not None:
                     begins.append(since)
                     ends.append(time)
+                    before.append(before[-1] + time - since)
                     since = None
-            before = [0, *itertools.accumulate(end - begin for begin, end in zip(begins, ends))]
             self._ran = begins, ends, before
         return self._ran
 
@@ -125,105 +133,96 @@ class Summary:
         return found
 
 
-def number_of(message: Message, name: str, other: Optional[float] = None) -> Optional[float]:
-    """A number that a message has, or another one."""
-    value = message.get(name)
-    return float(value) if isinstance(value, (int, float)) and math.isfinite(value) else other
-
-
-def timer_of(lap: Message, usual: float) -> float:
-    """How long the timer ran in a lap, as it says, or as is usual."""
-    told = number_of(lap, "total_timer_time")
-    return usual if told is None else told
-
-
-def span_of(message: Message) -> Optional[tuple[int, int]]:
-    """The first and the last second of a lap or a session; None where it has no time."""
-    start, end, elapsed = message.get("start_time"), message.seconds, number_of(message, "total_elapsed_time")
-    lasts = None if elapsed is None else math.floor(elapsed + 0.5)
-    if not isinstance(start, int):
-        start = end if end is None or lasts is None else end - lasts
-    elif lasts is not None:
-        end = start + lasts
-    return None if start is None or end is None else (start, max(start, end))
-
-
 class Outline:
     """What a file says of itself: its laps, its sessions, their sports, its activity, and when its timer ran."""
 
     def __init__(self) -> None:
-        self.of: dict[int, list[Message]] = {LAP: [], SESSION: [], SPORT: [], ACTIVITY: []}
-        # of its laps and sessions, by their places, the first and the last second
-        self.spans: dict[int, tuple[int, int]] = {}
+        self.laps, self.sessions = Told(), Told()
+        self.sports = 0  # so many messages say one
         self.timer = Timer()
-        # the numbers of all laps and lengths
-        self.indices: dict[int, list[Any]] = {LAP: [], LENGTH: []}
+        # all laps and lengths
+        self.counted = {LAP: Counted(), LENGTH: Counted()}
+        # what the first activity says, and how many seconds the clock of the place is ahead of UTC
+        self.activity: Optional[dict[str, Any]] = None
+        self.zone: Optional[int] = None
+        self._sport: dict[str, Any] = {}
+
+    def of(self, number: int) -> Told:
+        """The laps, or the sessions."""
+        return self.laps if number == LAP else self.sessions
 
     def take(self, message: Message) -> None:
         number = message.number
-        if number in self.indices:
-            self.indices[number].append(message.get(INDEX))
+        if number in self.counted:
+            self.counted[number].take(message.get(INDEX))
         if number == EVENT:
             self.timer.take(message)
-        elif number in (SPORT, ACTIVITY):
-            self.of[number].append(message)
         elif number in (LAP, SESSION):
-            span = span_of(message)
-            if span:
-                self.of[number].append(message)
-                self.spans[message.place] = span
+            self.of(number).take(message)
+        elif number == SPORT:
+            self._sport = self._sport or sport_of(message)
+            self.sports += 1
+        elif number == ACTIVITY:
+            self._take_activity(message)
 
-    @property
-    def zone(self) -> Optional[int]:
-        """How many seconds the clock of the place is ahead of UTC."""
-        for message in self.of[ACTIVITY]:
-            local = message.get("local_timestamp")
-            if isinstance(local, int) and message.seconds is not None:
-                return local - message.seconds
-        return None
+    def _take_activity(self, message: Message) -> None:
+        local, seconds = message.get("local_timestamp"), message.seconds
+        if self.activity is None:
+            self.activity = activity_in(message)
+        if self.zone is None and isinstance(local, int) and seconds is not None:
+            self.zone = local - seconds
 
     @property
     def sport(self) -> dict[str, Any]:
         """The sport of its first session, or where it has none, the one that it names first."""
-        told = (sport_of(message) for message in (*self.of[SESSION], *self.of[SPORT]))
-        return next((sport for sport in told if sport), {})
+        told = map(self.sessions.sport, range(len(self.sessions)))
+        return next((sport for sport in told if sport), self._sport)
+
+    @property
+    def span(self) -> Optional[tuple[int, int]]:
+        """The first and the last second of all laps and sessions; None without any."""
+        told = [of for of in (self.laps, self.sessions) if len(of)]
+        firsts = [of.first for of in told if of.first is not None]
+        return (min(firsts), max(of.last for of in told if of.last is not None)) if firsts else None
+
+    def lap_ran(self, row: int) -> float:
+        """How long the timer ran in a lap, as it says, or else by the events."""
+        timer = self.laps.timer(row)
+        return float(self.timer.ran(*self.laps.span(row))) if timer is None else timer
+
+    @property
+    def laps_ran(self) -> float:
+        """The same of all laps."""
+        return sum(map(self.lap_ran, range(len(self.laps))))
 
     def added(self, name: str) -> Optional[float]:
         """What its sessions come to, or its laps; None where not all of them say it."""
-        for number in (SESSION, LAP):
-            values = [number_of(message, name) for message in self.of[number]]
-            if values and None not in values:
-                return sum(value for value in values if value is not None)
-        return None
+        sums = (of.added[name] for of in (self.sessions, self.laps) if len(of))
+        return next((sum_ for sum_ in sums if sum_ is not None), None)
 
 
 class Ride:
     """The records of a file: all of them, and those after its last lap."""
 
     def __init__(self, told: Outline) -> None:
-        self.told, self.all, self.rest = told, Summary(), Summary()
-        self.spans = [span for span in map(span_of, (*told.of[LAP], *told.of[SESSION])) if span]
-        self.laps_end = max((span[1] for span in map(span_of, told.of[LAP]) if span), default=None)
+        self.told, self.all, self._rest = told, Summary(), Summary()
 
     def take(self, record: Message) -> None:
+        laps_end = self.told.laps.last
         self.all.take(record)
-        if record.seconds is not None and (self.laps_end is None or record.seconds > self.laps_end):
-            self.rest.take(record)
+        if record.seconds is not None and (laps_end is None or record.seconds > laps_end):
+            self._rest.take(record)
 
     def last_lap(self, index: int) -> "Optional[Anew]":
         """A lap of the records that are in none, by what it is counted; none where the timer didn't run in it."""
-        if self.rest.start is None:
+        laps_end, span = self.told.laps.last, self.told.span or (0, 0)
+        if self._rest.start is None:
             return None
-        begin = self.rest.start if self.laps_end is None else self.laps_end
-        end = max(self.rest.end, *(last for _, last in (*self.spans, (0, 0))))
+        begin, end = self._rest.start if laps_end is None else laps_end, max(self._rest.end, span[1], 0)
         ran = float(self.told.timer.ran(begin, end))
-        if not ran and self.laps_end is not None:
+        if not ran and laps_end is not None:
             return None
-        return Anew("lap", {"message_index": index, **self.rest.lap(begin, end, ran), **LAP_ENDS})
-
-
-def sport_of(message: Message) -> dict[str, Any]:
-    return {name: message[name] for name in ("sport", "sub_sport") if message.get(name) is not None}
+        return Anew("lap", {"message_index": index, **self._rest.lap(begin, end, ran), **LAP_ENDS})
 
 
 def outlines(files: Files) -> dict[int, Outline]:
@@ -253,10 +252,15 @@ class Anew(NamedTuple):
                 values = {name: value for name, value in values.items() if name != wrong.field}
 
 
-def activity_of(end: int, timers: Iterable[float], zone: Optional[int], told: Optional[Message] = None) -> Anew:
-    """The message of an activity of so many sessions, which ends at a second; of one that was told its type, too."""
-    ran = list(timers)
-    own = {name: told[name] for name in ("type", "event", "event_type") if told and told.get(name) is not None}
+def activity_in(message: Message) -> dict[str, Any]:
+    """What an activity says of itself, beside its times."""
+    told = {name: message.get(name) for name in ("type", "event", "event_type")}
+    return {name: value for name, value in told.items() if value is not None}
+
+
+def activity_of(end: int, count: int, ran: float, zone: Optional[int], told: Optional[dict[str, Any]] = None) -> Anew:
+    """The message of an activity of so many sessions in which the timer ran so long, which ends at a second; of one that
+    was told what it says, too."""
     local = {} if zone is None or not SYSTEM_TIMES <= end + zone < NO_TIME else {"local_timestamp": end + zone}
-    values = {"timestamp": end, "total_timer_time": sum(ran), "num_sessions": len(ran), "type": 0}
-    return Anew("activity", {**values, "event": _OF_ACTIVITY, "event_type": STOP, **own, **local})
+    values = {"timestamp": end, "total_timer_time": ran, "num_sessions": count, "type": 0}
+    return Anew("activity", {**values, "event": _OF_ACTIVITY, "event_type": STOP, **(told or {}), **local})

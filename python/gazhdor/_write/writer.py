@@ -148,6 +148,8 @@ class Writer:
         told.update({"field_name": name, "units": unit or None})
         fields: list[Spec] = list(told)
         if native is not None:
+            if not isinstance(native, (tuple, list)) or len(native) != 2:
+                raise ValueError('a field that it stands for is a message and a number, as ("record", 7)')
             told.update({14: message_number(native[0], self._names), 15: native[1]})
             fields += [(14, "uint16"), (15, "uint8")]
         definition = self.define(DESCRIPTION, fields)
@@ -279,6 +281,17 @@ class Writer:
                 name, unit = (str(told.get(key) or "") for key in (3, 8))
                 of = DeveloperField(index, number, name, unit, base)
                 self._developers[index, number] = self._developers[name] = of
+
+
+class Copies(Writer):
+    """A writer of messages that are copied, or have fields of the profile alone: it keeps no names of developer fields,
+    of which a file may have ever other ones."""
+
+    def _learn(self, known: Known, blocks: Blocks) -> None:
+        pass
+
+    def _learn_own(self, own: tuple[DeveloperField, ...]) -> None:
+        self._own = own
 
 
 def _each(blocks: Blocks) -> Iterator[bytes]:
