@@ -1,14 +1,12 @@
-/* What is so of the parts of an activity, or of any recording, that is cut at 20 places, and of these joined again: by the sums of what is read. As a
- * worker it sees some of the files of a folder. */
+/* What is so of the parts of an activity, or of any recording, that is cut at 20 places, and of these joined again: by the sums of what is read. */
 import assert from "node:assert/strict"
-import { join } from "node:path"
-import { isMainThread, parentPort, workerData } from "node:worker_threads"
 
-import { EXTRA, open } from "../gazhdor.mjs"
-import { bytesAt, random } from "./tools.mjs"
+import { EXTRA } from "../gazhdor.mjs"
+import { random } from "./tools.mjs"
 
 const PLACES = 20, LEFT_OUT = [253, 5, 19, 29] // what may be written anew of a record: its time, and what is accumulated
-const LAP = 19, SESSION = 18
+const LAP = 19, SESSION = 18, DESCRIPTION = 206
+const STAYS = [0, DESCRIPTION, 207] // file_id, and what describes developer fields
 
 const sumOf = (messages, name) => messages.reduce((sum, message) => sum + message.get(name), 0)
 const near = (found, wanted, what) => assert.ok(Math.abs(found - wanted) < 1e-6, `${what}: ${found}, and not ${wanted}`)
@@ -49,12 +47,19 @@ function ranUpTo(read, time) {
     return since === null ? total : total + time - since
 }
 
-/* The parts of a file between random times of its records, with the first and the last second of each; those in which no record is are left out. */
+/* The seconds at which a file is cut: at random times of its records, and where these are few, at all of them but the first, and at others from before
+ * them to after them. */
+function placesOf(records, below) {
+    const times = [...new Set(timed(records).map(({ seconds }) => seconds))].sort((one, other) => one - other), left = times.slice(1), cuts = new Set()
+    while (cuts.size < PLACES && left.length > 0) cuts.add(...left.splice(below(left.length), 1))
+    const first = Math.max(times[0] - PLACES, 1), length = times.at(-1) + PLACES - first
+    while (cuts.size < PLACES && times.length > 0) cuts.add(first + below(length))
+    return [...cuts].sort((one, other) => one - other)
+}
+
+/* The parts of a file between these, with the first and the last second of each; those in which no record is are left out. */
 function partsOf(gazhdor, bytes, records, below) {
-    const known = records.map(({ seconds }) => seconds).filter(seconds => seconds !== null)
-    const times = [...new Set(known)].sort((one, other) => one - other).slice(1), cuts = []
-    while (cuts.length < PLACES && times.length > 0) cuts.push(...times.splice(below(times.length), 1))
-    cuts.sort((one, other) => one - other)
+    const cuts = placesOf(records, below)
     return [undefined, ...cuts].flatMap((begin, k) => {
         const end = k < cuts.length ? cuts[k] - 1 : undefined, made = partOf(gazhdor, bytes, { begin, end })
         return made === null ? [] : [{ begin, end, made, read: new Read(gazhdor, made) }]
@@ -71,9 +76,14 @@ function partOf(gazhdor, bytes, span) {
     }
 }
 
+/* That a part has nothing of outside. */
+function seeInside({ begin = 0, end = Infinity, read }) {
+    for (const { seconds, number } of read.all) assert.ok(seconds === null || STAYS.includes(number) || (seconds >= begin && seconds <= end))
+}
+
 /* That a part says of itself what its records say, and has nothing of outside. */
 function seePart({ begin, end, read }) {
-    for (const { seconds } of read.all) assert.ok(seconds === null || (seconds >= (begin ?? 0) && seconds <= (end ?? Infinity)))
+    seeInside({ begin, end, read })
     const laps = read.of("lap"), sessions = read.of("session"), [told, ...more] = read.of("activity"), timer = sumOf(sessions, "total_timer_time")
     assert.deepEqual([more.length, told.get("num_sessions"), told.get("total_timer_time")], [0, sessions.length, timer])
     assert.equal(sumOf(laps, "total_timer_time"), timer)
@@ -164,24 +174,91 @@ function seeWholes(data, parts, name, number) {
 const sorted = records => records.map(record => JSON.stringify(whole(record), (_, value) => (typeof value === "bigint" ? `${value}n` : value))).sort()
 const timed = records => records.filter(({ seconds }) => seconds !== null)
 
-/* Any recording: records and beats are those of the whole, and so are the sums of such as have laps or sessions. */
-export function seeRecording(gazhdor, bytes, hasSums) {
-    const data = new Read(gazhdor, bytes), parts = partsOf(gazhdor, bytes, data.records, random(bytes.length))
-    for (const { begin = 0, end = Infinity, read } of parts)
-        for (const { seconds } of timed(read.records)) assert.ok(seconds >= begin && seconds <= end)
+/* The developer fields that messages have before their file describes them. */
+function undescribed({ all }) {
+    const found = new Set(), described = new Set()
+    let current = null
+    for (const message of all) {
+        if (message.file !== current) described.clear()
+        current = message.file
+        if (message.number === DESCRIPTION) described.add(`${message.get("developer_data_index")} ${message.get("field_definition_number")}`)
+        const own = message.fields.filter(({ developer }) => developer !== null).map(({ developer, number }) => `${developer} ${number}`)
+        for (const label of own) if (!described.has(label)) found.add(label)
+    }
+    return found
+}
+
+const lapsRan = read => read.of("lap").reduce((sum, lap) => sum + (lap.get("total_timer_time") ?? lap.get("total_elapsed_time") ?? 0), 0)
+const sessionsRan = read => sumOf(read.of("session"), "total_timer_time")
+
+/* From the first distance that records tell to the last one; 0 where none is told. */
+function metres(records) {
+    const told = records.map(({ distance }) => distance).filter(distance => distance !== null)
+    return told.length > 0 ? told.at(-1) - told[0] : 0
+}
+
+/* That the activity of a part of a recording says what its sessions say, and these and its laps what its records do. */
+function seeRecorded(read) {
+    const sessions = read.of("session"), [told, ...more] = read.of("activity")
+    assert.deepEqual([more.length, told.get("num_sessions"), told.get("total_timer_time")], [0, sessions.length, sessionsRan(read)])
+    for (const of of [...read.of("lap"), ...sessions]) {
+        const begin = of.get("start_time"), end = of.seconds
+        assert.equal(of.get("total_elapsed_time"), end - begin)
+        const within = timed(read.records).filter(({ seconds }) => begin <= seconds && seconds <= end)
+        near(of.get("total_distance") ?? 0, metres(within), "the distance")
+        const rates = within.map(record => record.get("heart_rate") ?? null).filter(rate => rate !== null)
+        const mean = Math.floor(rates.reduce((sum, rate) => sum + rate, 0) / rates.length + 0.5)
+        if (rates.length > 0) assert.deepEqual([of.get("max_heart_rate"), of.get("avg_heart_rate")], [Math.max(...rates), mean])
+    }
+}
+
+/* That the parts of a recording, joined, come to what the whole did, but for what lies between them. */
+function seeRecordedSums(data, both, parts) {
+    const { records } = data, laps = both.of("lap"), [session, ...more] = both.of("session"), lost = lostBetween(data, parts)
+    const wholes = data.of("session").length > 0 ? data.of("session") : data.of("lap"), up = record => ranUpTo(data, record.seconds)
+    // Where it has none of these, its records alone say how long it ran.
+    const ran = wholes.length > 0 ? null : up(records.at(-1)) - up(records[0])
+    const timer = wholes.reduce((sum, of) => sum + (of.get("total_timer_time") ?? of.get("total_elapsed_time")), ran ?? 0) - lost(up)
+    assert.deepEqual([session.get("total_timer_time"), sumOf(laps, "total_timer_time"), more.length], [timer, timer, 0])
+    assert.equal(laps.length, session.get("num_laps"))
+    const calories = wholes.map(of => of.get("total_calories") ?? null)
+    assert.deepEqual([session.get("total_calories") ?? null], calories.length > 0 ? calories : [null])
+    const begins = [0, ...parts.slice(1).map(({ begin }) => records.findIndex(({ seconds }) => seconds >= begin))]
+    const distance = begins.reduce((sum, begin, k) => sum + metres(records.slice(begin, begins[k + 1])), 0)
+    near(session.get("total_distance") ?? 0, distance, "the distance of all")
+}
+
+/* Any recording: its parts, and the sums of these joined. Returns why they can't be joined, else null: a part has a developer field before its
+ * description, which one before it has. */
+export function seeRecording(gazhdor, bytes) {
+    const data = new Read(gazhdor, bytes), parts = partsOf(gazhdor, bytes, data.records, random(bytes.length)), agrees = lapsRan(data) === sessionsRan(data)
     assert.deepEqual(sorted(timed(parts.flatMap(({ read }) => read.records))), sorted(timed(data.records)))
-    if (!hasSums) return
-    const both = new Read(gazhdor, gazhdor.join(parts.map(({ made }) => made), { one: true })), laps = both.of("lap")
+    for (const part of parts) {
+        seeInside(part)
+        if (parts.length === 1) continue
+        seeRecorded(part.read)
+        assert.ok(!agrees || lapsRan(part.read) === sessionsRan(part.read)) // Some recordings end after their last lap.
+    }
+    const first = undescribed(parts[0].read), isRefused = parts.slice(1).some(({ read }) => [...undescribed(read)].some(label => first.has(label)))
+    const joined = () => gazhdor.join(parts.map(({ made }) => made), { one: true })
+    if (isRefused) return reasonOf(joined)
+    const both = new Read(gazhdor, joined())
     assert.deepEqual(sorted(both.records), sorted(data.records))
     seeBeats(data, both)
-    if (data.records.length === 0) return
-    const [session] = both.of("session"), wholes = data.of("session").length > 0 ? data.of("session") : data.of("lap"), { records } = data
-    const lost = lostBetween(data, parts), timer = wholes.reduce((sum, of) => sum + (of.get("total_timer_time") ?? of.get("total_elapsed_time")), 0)
-    assert.equal(session.get("total_timer_time"), timer - lost(record => ranUpTo(data, record.seconds)))
-    assert.deepEqual([sumOf(laps, "total_timer_time"), laps.length], [session.get("total_timer_time"), session.get("num_laps")])
-    assert.deepEqual([session.get("total_calories") ?? null], wholes.map(of => of.get("total_calories") ?? null))
-    if (records[0].distance !== null)
-        near(session.get("total_distance"), records.at(-1).distance - records[0].distance - lost(record => record.distance), "the distance of all")
+    if (timed(data.records).length > 0) seeRecordedSums(data, both, parts)
+    else assert.deepEqual([both.of("session"), both.of("activity")], [[], []])
+    return null
+}
+
+/* Why a call is refused. */
+function reasonOf(call) {
+    try {
+        call()
+    } catch (error) {
+        assert.ok(error instanceof RangeError, error.stack)
+        return error.message
+    }
+    return assert.fail("it isn't refused")
 }
 
 /* The activity of a number. */
@@ -195,18 +272,4 @@ export function seeActivity(gazhdor, bytes, number) {
     seeSums(data, both, parts)
     seeWholes(data, parts, "lap", LAP)
     seeWholes(data, parts, "session", SESSION)
-}
-
-if (!isMainThread) {
-    const gazhdor = await open(), { place, names } = workerData
-    for (const name of names) {
-        const bytes = bytesAt(join(place, name)), number = /^activity-(\d+)\.fit$/.exec(name)?.[1]
-        try {
-            if (number === undefined) seeRecording(gazhdor, bytes, /^recorded-|^ride/.test(name))
-            else seeActivity(gazhdor, bytes, Number(number))
-        } catch (error) {
-            throw new Error(`${name}: ${error.stack}`)
-        }
-    }
-    parentPort.postMessage(names.length)
 }

@@ -2,14 +2,13 @@
  * python/tests/test_parts.py has it of the same ones in Python. */
 import assert from "node:assert/strict"
 import { execFileSync } from "node:child_process"
-import { once } from "node:events"
 import { readdirSync, writeFileSync } from "node:fs"
-import { cpus } from "node:os"
 import { join } from "node:path"
 import { test } from "node:test"
-import { Worker } from "node:worker_threads"
 
-import { CC, RIDE, folder, inTree, needs } from "./tools.mjs"
+import { open } from "../gazhdor.mjs"
+import { seeActivity, seeRecording } from "./parts.mjs"
+import { CC, RIDE, bytesAt, folder, inTree, needs } from "./tools.mjs"
 
 const ACTIVITIES = 300, KINDS = ["plain", "compressed", "developer", "interleaved", "turns", "definitions", "strings", "small"]
 
@@ -26,15 +25,23 @@ function files() {
     return place
 }
 
+/* The known file whose parts can't be joined, and why: it has a developer field before the field is described. In the first part that is a field of which
+ * nothing is known, and it stays one; in the next one it would come after the description of the first, and would get the name and the type of this. */
+const NOT_JOINED = {
+    both: "file 2 doesn't describe its developer field dev_0_5, and would get the name and the type of one of a file before it",
+}
+
 test("files that are cut at 20 places, and joined again", { ...needs("python3"), timeout: 900000 }, async () => {
-    const place = files(), all = readdirSync(place).filter(name => name.endsWith(".fit"))
+    const gazhdor = await open(), place = files(), all = readdirSync(place).filter(name => name.endsWith(".fit")), notJoined = {}
     assert.ok(all.length >= ACTIVITIES + 9)
-    // Each Worker compiles all anew, so there are few.
-    const count = Math.min(2, cpus().length)
-    const seen = await Promise.all(Array.from({ length: count }, async (_, k) => {
-        const names = all.filter((_, number) => number % count === k)
-        const [made] = await once(new Worker(new URL("./parts.mjs", import.meta.url), { workerData: { place, names } }), "message")
-        return made
-    }))
-    assert.equal(seen.reduce((sum, made) => sum + made, 0), all.length)
+    for (const name of all) {
+        const bytes = bytesAt(join(place, name)), number = /^activity-(\d+)\.fit$/.exec(name)?.[1]
+        try {
+            const why = number === undefined ? seeRecording(gazhdor, bytes) : seeActivity(gazhdor, bytes, Number(number))
+            if (why) notJoined[name.slice(0, -".fit".length)] = why
+        } catch (error) {
+            throw new Error(`${name}: ${error.stack}`)
+        }
+    }
+    assert.deepEqual(notJoined, NOT_JOINED)
 })

@@ -1,10 +1,13 @@
 //! The parts of recordings, and these joined again: the sums of the whole, parts that say of themselves what their records say, and nothing of
-//! outside their time. GAZHDOR_ACTIVITIES names a folder of activities, which python/tests/activities.py makes, and GAZHDOR_RECORDINGS one of
-//! recordings; what isn't named is left out.
+//! outside their time. GAZHDOR_ACTIVITIES names a folder of activities, which python/tests/activities.py makes, GAZHDOR_RECORDINGS one of
+//! recordings, and GAZHDOR_KNOWN one of the known files, which tests/known writes; what isn't named is left out.
 mod made;
+#[path = "made/read.rs"]
+mod read;
 
-use gazhdor::{join_as_one, messages, Edit, EditFault, Message, Messages, Names, Time};
+use gazhdor::{join_as_one, Edit, EditFault, JoinFault, Message, Time};
 use made::Random;
+use read::{distance, metres, near, number, ran_in, seconds, sum, Read};
 use std::collections::{BTreeMap, BTreeSet};
 use std::fs;
 use std::path::PathBuf;
@@ -14,57 +17,12 @@ const RIDE: &[u8] = include_bytes!(concat!(env!("GAZHDOR_RIDES"), "/ride.fit"));
 const PLACES: usize = 20;
 /// What may be written anew of a record: its time, and what is accumulated.
 const ANEW: [u8; 4] = [253, 5, 19, 29];
-
-thread_local! {
-    static NAMES: &'static Names = Box::leak(Box::new(Names::extra()));
-}
-
-/// What is read of a file.
-struct Read {
-    messages: Messages,
-    names: &'static Names,
-}
-
-impl Read {
-    fn of(file: &[u8]) -> Read {
-        Read { messages: messages(file).unwrap(), names: NAMES.with(|names| *names) }
-    }
-
-    fn only<'r>(&'r self, name: &'r str) -> Vec<Message<'r>> {
-        let all = self.messages.iter().map(|message| message.named(self.names));
-        all.filter(|message| message.name() == Some(name)).collect()
-    }
-
-    fn records(&self) -> Vec<Message<'_>> {
-        self.only("record")
-    }
-
-    /// The intervals between beats, all one after another.
-    fn beats(&self) -> Vec<f64> {
-        let times = self.only("hrv").into_iter().filter_map(|beats| beats.field("time"));
-        times.flat_map(|field| (0..field.count()).filter_map(move |k| field.value(k))).collect()
-    }
-}
-
-fn seconds(message: &Message<'_>) -> i64 {
-    message.time().unwrap().seconds().into()
-}
-
-fn number(message: &Message<'_>, field: &str) -> f64 {
-    message.value(field).unwrap_or_else(|| panic!("{field} of {message:?}"))
-}
-
-fn sum(of: &[Message<'_>], field: &str) -> f64 {
-    of.iter().map(|message| number(message, field)).sum()
-}
-
-fn near(one: f64, other: f64) -> bool {
-    (one - other).abs() < 1e-6
-}
-
-fn distance(message: &Message<'_>) -> f64 {
-    message.distance().unwrap()
-}
+/// file_id, and what describes developer fields.
+const STAYS: [u16; 3] = [0, 206, 207];
+/// The known file whose parts can't be joined, and why: it has a developer field before the field is described. In the first part that is a field
+/// of which nothing is known, and it stays one; in the next one it would come after the description of the first, and be read by it.
+const NOT_JOINED: (&str, &str) =
+    ("both.fit", "file 2 doesn't describe its developer field dev_0_5, and one before it does");
 
 /// All that a record says but for what may be written anew.
 fn whole(record: &Message<'_>) -> String {
@@ -103,6 +61,23 @@ fn ran(events: &[(i64, bool)], time: i64) -> i64 {
 
 type Span = (Option<i64>, Option<i64>);
 
+/// The seconds at which a recording is cut: at random times of its records, and where these are few, at all of them but the first, and at others from
+/// before them to after them.
+fn places(times: &BTreeSet<i64>, random: &mut Random) -> BTreeSet<i64> {
+    let mut left: Vec<_> = times.iter().copied().skip(1).collect();
+    while left.len() > PLACES {
+        left.swap_remove(random.below(left.len()));
+    }
+    let mut places: BTreeSet<_> = left.into_iter().collect();
+    if let Some((first, last)) = times.first().zip(times.last()) {
+        let begin = (first - PLACES as i64).max(1);
+        while places.len() < PLACES {
+            places.insert(begin + random.below((last + PLACES as i64 - begin) as usize) as i64);
+        }
+    }
+    places
+}
+
 /// A recording, its parts with their spans, and these joined.
 struct Case {
     name: String,
@@ -112,33 +87,33 @@ struct Case {
 }
 
 impl Case {
-    /// None where no record has a time.
-    fn of(name: &str, file: &[u8], seed: u64) -> Option<Case> {
+    /// A fault where its parts can't be joined: one has a developer field before its description, which the first one has.
+    fn of(name: &str, file: &[u8], seed: u64) -> Result<Case, JoinFault> {
         let whole = Read::of(file);
-        let times: BTreeSet<i64> =
-            whole.records().iter().filter(|record| record.time().is_some()).map(seconds).collect();
-        let (mut random, mut left) = (Random(seed + 1), times.iter().copied().skip(1).collect::<Vec<_>>());
-        while left.len() > PLACES {
-            left.swap_remove(random.below(left.len()));
-        }
-        left.sort_unstable();
-        let begins = std::iter::once(None).chain(left.iter().map(|&cut| Some(cut)));
-        let ends = left.iter().map(|&cut| Some(cut - 1)).chain([None]);
+        let places = places(&whole.times(), &mut Random(seed + 1));
+        let begins = std::iter::once(None).chain(places.iter().map(|&cut| Some(cut)));
+        let ends = places.iter().map(|&cut| Some(cut - 1)).chain([None]);
         let bytes: Vec<_> = begins.zip(ends).filter_map(|span| Some((span, part(file, span)?))).collect();
-        times.first()?;
-        let joined = Read::of(&join_as_one(bytes.iter().map(|(_, part)| part), Vec::new()).unwrap());
-        let parts = bytes.iter().map(|(span, part)| (*span, Read::of(part))).collect();
-        Some(Case { name: name.to_string(), whole, parts, joined })
+        let parts: Vec<_> = bytes.iter().map(|(span, part)| (*span, Read::of(part))).collect();
+        let joined = join_as_one(bytes.iter().map(|(_, part)| part), Vec::new());
+        let first = parts[0].1.undescribed();
+        let is_refused = parts[1..].iter().any(|(_, part)| !part.undescribed().is_disjoint(&first));
+        assert_eq!(joined.is_err(), is_refused, "{name}: whether its parts can be joined");
+        Ok(Case { name: name.to_string(), whole, parts, joined: Read::of(&joined?) })
     }
 
     fn see(&self, what: &str, is_so: bool) {
         assert!(is_so, "{}: {what}", self.name);
     }
 
+    /// The first second of each part but the first one.
+    fn begins(&self) -> impl Iterator<Item = i64> + '_ {
+        self.parts[1..].iter().filter_map(|(span, _)| span.0)
+    }
+
     /// Of each gap between two parts the record before it and the one after it.
     fn gaps<'r>(&self, records: &[Message<'r>]) -> Vec<(Message<'r>, Message<'r>)> {
-        let begins = self.parts.iter().filter_map(|(span, _)| span.0);
-        let at = begins.map(|begin| records.partition_point(|record| seconds(record) < begin));
+        let at = self.begins().map(|begin| records.partition_point(|record| seconds(record) < begin));
         at.map(|at| (records[at - 1], records[at])).collect()
     }
 
@@ -159,7 +134,8 @@ impl Case {
     fn see_messages(&self) {
         for ((begin, end), part) in &self.parts {
             let is_in = |time: i64| begin.map_or(true, |begin| time >= begin) && end.map_or(true, |end| time <= end);
-            let times = part.messages.iter().filter(|message| message.number() != 0 && message.time().is_some());
+            let has_time = |message: &Message<'_>| !STAYS.contains(&message.number()) && message.time().is_some();
+            let times = part.messages.iter().filter(has_time);
             self.see("what is in a part is of its time", times.map(|message| seconds(&message)).all(is_in));
         }
         let of_parts: Vec<_> = self.parts.iter().flat_map(|(_, part)| wholes(&part.records())).collect();
@@ -200,22 +176,61 @@ impl Case {
         let (sessions, laps) = (self.whole.only("session"), self.joined.only("lap"));
         let told = if sessions.is_empty() { self.whole.only("lap") } else { sessions };
         let (session, timer) = (self.joined.only("session")[0], sum(&laps, "total_timer_time"));
-        let ran: f64 = told
-            .iter()
-            .map(|of| of.value("total_timer_time").unwrap_or_else(|| number(of, "total_elapsed_time")))
-            .sum();
+        let ran = match &told[..] {
+            [] => ran(&events, seconds(&records[records.len() - 1])) as f64 - ran(&events, seconds(&records[0])) as f64,
+            told => told.iter().map(ran_in).sum(),
+        };
         self.see("one session", self.joined.only("session").len() == 1 && self.joined.only("activity").len() == 1);
         self.see("the timer of laps and session", number(&session, "total_timer_time") == timer);
         self.see("the timer", timer == ran - lost as f64);
         self.see("the number of laps", number(&session, "num_laps") == laps.len() as f64);
         if told.iter().all(|of| number(of, "total_elapsed_time") > 1.0) {
             let calories: Option<f64> = told.iter().map(|of| of.value("total_calories")).sum();
-            self.see("calories", session.value("total_calories") == calories);
+            self.see("calories", session.value("total_calories") == calories.filter(|_| !told.is_empty()));
         }
-        if records[0].distance().is_some() {
-            let all = distance(&records[records.len() - 1]) - distance(&records[0]);
-            let step = gaps.iter().map(|(one, other)| distance(other) - distance(one)).sum::<f64>();
-            self.see("the distance", near(number(&session, "total_distance"), all - step));
+        let is_of = |begin: i64| move |record: &Message<'_>| seconds(record) < begin;
+        let (mut left, mut metres_in) = (&records[..], 0.0);
+        for begin in self.begins() {
+            let (part, rest) = left.split_at(left.partition_point(is_of(begin)));
+            metres_in += metres(part);
+            left = rest;
+        }
+        let told = session.value("total_distance").unwrap_or(0.0);
+        self.see("the distance", near(told, metres_in + metres(left)));
+    }
+
+    /// What is so of the parts of a recording that is no activity of the tests.
+    fn see_recording(&self) {
+        self.see_messages();
+        let agrees = self.whole.ran_in("lap") == self.whole.ran_in("session"); // Some end after their last lap.
+        for (_, part) in self.parts.iter().filter(|_| self.parts.len() > 1) {
+            self.see_recorded(part);
+            self.see("the timer of its laps", !agrees || part.ran_in("lap") == part.ran_in("session"));
+        }
+        if self.whole.times().is_empty() {
+            self.see("no session", self.joined.only("session").is_empty() && self.joined.only("activity").is_empty());
+        } else if self.runs_on() {
+            self.see_sums();
+        }
+    }
+
+    /// The activity of a part of a recording says what its sessions say, and these and its laps what its records do.
+    fn see_recorded(&self, part: &Read) {
+        let (sessions, activities, records) = (part.only("session"), part.only("activity"), part.records());
+        let told = ["num_sessions", "total_timer_time"].map(|field| number(&activities[0], field));
+        self.see("what the activity says", told == [sessions.len() as f64, part.ran_in("session")]);
+        for of in part.only("lap").iter().chain(&sessions) {
+            let (start, end) = (number(of, "start_time") as i64, seconds(of));
+            let is_in = |record: &Message<'_>| record.time().is_some() && (start..=end).contains(&seconds(record));
+            let inside: Vec<_> = records.iter().copied().filter(is_in).collect();
+            self.see("its time", number(of, "total_elapsed_time") == (end - start) as f64);
+            self.see("its distance", near(of.value("total_distance").unwrap_or(0.0), metres(&inside)));
+            let rates: Vec<_> = inside.iter().filter_map(|record| record.value("heart_rate")).collect();
+            if !rates.is_empty() {
+                let mean = (rates.iter().sum::<f64>() / rates.len() as f64 + 0.5).floor();
+                let told = ["max_heart_rate", "avg_heart_rate"].map(|field| number(of, field));
+                self.see("its heart rates", told == [rates.iter().copied().fold(0.0, f64::max), mean]);
+            }
         }
     }
 
@@ -321,10 +336,19 @@ fn activities() {
 fn recordings() {
     let ride = ("ride".to_string(), RIDE.to_vec());
     for (seed, (name, file)) in (0..).zip([ride].into_iter().chain(files("GAZHDOR_RECORDINGS"))) {
-        let Some(case) = Case::of(&name, &file, seed) else { continue };
-        case.see_messages();
-        if case.runs_on() {
-            case.see_sums();
+        Case::of(&name, &file, seed).unwrap().see_recording();
+    }
+}
+
+#[test]
+fn known() {
+    let (files, mut refused) = (files("GAZHDOR_KNOWN"), Vec::new());
+    for (seed, (name, file)) in (0..).zip(&files) {
+        match Case::of(name, file, seed) {
+            Ok(case) => case.see_recording(),
+            Err(fault) => refused.push((name.as_str(), fault.to_string())),
         }
     }
+    let wanted = [NOT_JOINED].into_iter().filter(|_| !files.is_empty()).map(|(name, why)| (name, why.to_string()));
+    assert_eq!(refused, wanted.collect::<Vec<_>>());
 }
