@@ -7,22 +7,26 @@ use crate::numbers::{
 use std::sync::atomic::{AtomicU64, Ordering};
 use std::sync::Arc;
 
-/// Some bytes from a place on; none where there aren't that many.
-pub(crate) fn some<const N: usize>(bytes: &[u8], at: usize) -> Option<[u8; N]> {
-    bytes.get(at..at.checked_add(N)?)?.try_into().ok()
-}
-
 /// A number of 2, 4 or 8 bytes; 0 where it isn't there.
 pub(crate) fn two(bytes: &[u8], at: usize) -> u16 {
-    some(bytes, at).map_or(0, u16::from_le_bytes)
+    match bytes.get(at..) {
+        Some(&[a, b, ..]) => u16::from_le_bytes([a, b]),
+        _ => 0,
+    }
 }
 
 pub(crate) fn four(bytes: &[u8], at: usize) -> u32 {
-    some(bytes, at).map_or(0, u32::from_le_bytes)
+    match bytes.get(at..) {
+        Some(&[a, b, c, d, ..]) => u32::from_le_bytes([a, b, c, d]),
+        _ => 0,
+    }
 }
 
 pub(crate) fn eight(bytes: &[u8], at: usize) -> u64 {
-    some(bytes, at).map_or(0, u64::from_le_bytes)
+    match bytes.get(at..) {
+        Some(&[a, b, c, d, e, f, g, h, ..]) => u64::from_le_bytes([a, b, c, d, e, f, g, h]),
+        _ => 0,
+    }
 }
 
 /// Puts bytes at a place of a block that is there.

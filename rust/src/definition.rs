@@ -203,6 +203,16 @@ impl<'a> Definition<'a> {
         &self.block
     }
 
+    /// The same by some names.
+    pub(crate) fn named<'d>(&'d self, names: &'d Names) -> Definition<'d> {
+        Definition::read(&self.block, Some(names))
+    }
+
+    /// The same by no names but those of its block.
+    pub(crate) fn unnamed(self) -> Definition<'static> {
+        Definition { block: Cow::Owned(self.block.into_owned()), names: None }
+    }
+
     /// How many fields and how many developer fields it has.
     fn counts(&self) -> (usize, usize) {
         (two(&self.block, AT_DEFINITION_FIELDS).into(), two(&self.block, AT_DEFINITION_DEVELOPERS).into())

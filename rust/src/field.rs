@@ -1,5 +1,5 @@
 //! A field of a message, and its values.
-use crate::blocks::{eight, four, some, text, two, up_to_zero};
+use crate::blocks::{eight, four, text, two, up_to_zero};
 use crate::measure::Measure;
 use crate::names::{Named, NamedFields, Names};
 use crate::numbers::{
@@ -341,11 +341,14 @@ impl<'a> Field<'a> {
 
 /// The bits of an item of 1, 2, 4 or 8 bytes at a place; none where it isn't there.
 pub(crate) fn bits_at(bytes: &[u8], at: usize, width: u8) -> Option<u64> {
+    if at > bytes.len() || bytes.len() - at < width.into() {
+        return None;
+    }
     match width {
-        1 => bytes.get(at).map(|&byte| byte.into()),
-        2 => some(bytes, at).map(|bytes| u16::from_le_bytes(bytes).into()),
-        4 => some(bytes, at).map(|bytes| u32::from_le_bytes(bytes).into()),
-        8 => some(bytes, at).map(u64::from_le_bytes),
+        1 => Some(bytes[at].into()),
+        2 => Some(two(bytes, at).into()),
+        4 => Some(four(bytes, at).into()),
+        8 => Some(eight(bytes, at)),
         _ => None,
     }
 }

@@ -240,18 +240,19 @@ impl<'a> Message<'a> {
     /// The first field of this name; developer fields have names too.
     #[must_use]
     pub fn field(&self, name: &str) -> Option<Field<'a>> {
-        let name = name.as_bytes();
+        let (name, all) = (name.as_bytes(), self.fields());
+        let told = all.named.and_then(|(_, of)| of);
         let is_named = |entry: &&[u8]| {
-            let text = &entry[AT_ENTRY_NAME..];
-            text.starts_with(name) && up_to_zero(text) == name
-        };
-        match name {
-            [] => None,
-            _ if self.names.is_some() => self.fields().find(|field| field.is_named(name)),
-            _ => {
-                Entries::new(self.definition).find(is_named).map(|entry| Field::new(entry, self.definition, self.block))
+            let own = told.filter(|_| entry[AT_ENTRY_DEVELOPER] == 0).and_then(|of| of.get(entry[AT_ENTRY_NUMBER]));
+            match own.and_then(|named| named.name.as_deref()) {
+                Some(own) => own.as_bytes() == name,
+                None => {
+                    let text = &entry[AT_ENTRY_NAME..];
+                    text.starts_with(name) && up_to_zero(text) == name
+                }
             }
-        }
+        };
+        all.find_entry(is_named).filter(|_| !name.is_empty())
     }
 
     /// The first field with this number, developer fields left out.

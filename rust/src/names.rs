@@ -69,22 +69,40 @@ pub struct Names {
 
 /// What is said of the fields of a message, each at its number.
 #[derive(Debug, Clone, Default, PartialEq, Eq)]
-pub(crate) struct NamedFields(Vec<Option<Box<Named>>>);
+pub(crate) struct NamedFields {
+    all: Vec<Option<Box<Named>>>,
+    /// The numbers of those that have names, by these and then by themselves.
+    by_name: Vec<u8>,
+}
 
 impl NamedFields {
     fn set(&mut self, field: u8, named: Named) {
-        let length = self.0.len().max(usize::from(field) + 1);
-        self.0.resize(length, None);
-        self.0[usize::from(field)] = Some(Box::new(named));
+        let length = self.all.len().max(usize::from(field) + 1);
+        self.all.resize(length, None);
+        self.by_name.retain(|&number| number != field);
+        if let Some(name) = &named.name {
+            let at = self.first_not(|of, number| (of, number) < (name, field));
+            self.by_name.insert(at, field);
+        }
+        self.all[usize::from(field)] = Some(Box::new(named));
     }
 
     pub(crate) fn get(&self, field: u8) -> Option<&Named> {
-        self.0.get(usize::from(field))?.as_deref()
+        self.all.get(usize::from(field))?.as_deref()
+    }
+
+    fn name(&self, field: u8) -> &str {
+        self.get(field).and_then(|named| named.name.as_deref()).unwrap_or("")
+    }
+
+    /// Where among those that have names the first one stands of which something isn't so that is so of all before it.
+    fn first_not(&self, is_before: impl Fn(&str, u8) -> bool) -> usize {
+        self.by_name.partition_point(|&number| is_before(self.name(number), number))
     }
 
     fn number_of(&self, name: &str) -> Option<u8> {
-        let is_named = |of: &Option<Box<Named>>| of.as_ref().and_then(|of| of.name.as_deref()) == Some(name);
-        self.0.iter().position(is_named).and_then(|number| u8::try_from(number).ok())
+        let first = *self.by_name.get(self.first_not(|of, _| of < name))?;
+        Some(first).filter(|&number| self.name(number) == name)
     }
 }
 

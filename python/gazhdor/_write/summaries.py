@@ -229,7 +229,10 @@ def outlines(files: Files) -> dict[int, Outline]:
     """The outline of each file that says something of itself, by its number."""
     found: dict[int, Outline] = {}
     for message in files.messages(LAP, SESSION, SPORT, ACTIVITY, EVENT, LENGTH):
-        found.setdefault(message.file, Outline()).take(message)
+        file = message.file
+        if file not in found:
+            found[file] = Outline()
+        found[file].take(message)
     return found
 
 
