@@ -144,3 +144,23 @@ fn base_types_of_fields() {
     let fault = Names::read("message\tfield\tbase type\n1\t2\tuint7\n").unwrap_err();
     assert_eq!((fault.line, fault.what), (2, "there is no such base type"));
 }
+
+/// A name finds the first field that has it, also once fields before and after it get it, or another one.
+#[test]
+fn fields_by_their_names() {
+    let called = |name: &str| Named { name: Some(name.to_string()), ..Named::default() };
+    let mut names = Names::new();
+    let found = |names: &Names| ["a", "b", "c", ""].map(|name| names.field_named(7, name));
+    assert_eq!(found(&names), [None; 4]);
+    [(200, "b"), (3, "a"), (9, "b"), (0, "c")]
+        .iter()
+        .for_each(|&(field, name)| names.name_field(7, field, called(name)));
+    assert_eq!(found(&names), [Some(3), Some(9), Some(0), None]);
+    names.name_field(7, 9, called("a"));
+    assert_eq!(found(&names), [Some(3), Some(200), Some(0), None]);
+    names.name_field(7, 3, called("c"));
+    assert_eq!(found(&names), [Some(9), Some(200), Some(0), None]);
+    names.name_field(7, 0, Named::default());
+    assert_eq!(found(&names), [Some(9), Some(200), Some(3), None]);
+    assert_eq!(names.field_named(8, "a"), None);
+}

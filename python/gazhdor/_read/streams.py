@@ -314,23 +314,18 @@ def messages(
 
 
 class Files:
-    """Files that are read several times, with the names of EXTRA. The first time a fault is raised, before anything
-    else. Of short ones what was made of them is kept."""
+    """Good files, as `chained` has them, which are read several times, with the names of EXTRA. Of short ones what was
+    made of them is kept."""
 
     def __init__(self, data: bytes) -> None:
-        self._data, self._is_good, self._is_short = data, False, len(data) <= _SHORT
+        self._data, self._is_short = data, len(data) <= _SHORT
         self._kept: Optional[list[Everything]] = None
-
-    def _first(self) -> bool:
-        """Whether they are read for the first time."""
-        was_good, self._is_good = self._is_good, True
-        return not was_good
 
     def events(self) -> Iterator[Everything]:
         """All that they have."""
         if self._kept is not None:
             return iter(self._kept)
-        found = messages(self._data, names=EXTRA, everything=True, partial=not self._first())
+        found = messages(self._data, names=EXTRA, everything=True, partial=True)
         if not self._is_short:
             return found
         begin = list(itertools.islice(found, _FEW))
@@ -342,7 +337,7 @@ class Files:
     def messages(self, *numbers: int) -> Iterator[Message]:
         """The messages of some numbers."""
         if not self._is_short:
-            return messages(self._data, only=numbers, names=EXTRA, partial=not self._first())
+            return messages(self._data, only=numbers, names=EXTRA, partial=True)
         return (event for event in self.events() if type(event) is Message and event.number in numbers)
 
 
