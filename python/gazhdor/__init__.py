@@ -53,7 +53,7 @@ from ._sources import bytes_of as _bytes_of
 from ._times import when
 from ._write.csv_advice import advice as _advice
 from ._write.definitions import FieldDefinition
-from ._write.field_shapes import DeveloperField
+from ._write.developers import DeveloperField
 from ._write.activities import activity
 from ._write.edits import edit
 from ._write.joins import join

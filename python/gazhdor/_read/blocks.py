@@ -23,7 +23,9 @@ from .values import Definition
 
 Only = Union[None, str, int, Iterable[Kind]]
 
-_MOST = 1 << 20  # So many bytes of definitions are kept, beside the current ones.
+# So many bytes of definitions are kept, beside the current ones, each with so many more. What is made of one takes
+# thirty times as much.
+_MOST, _MORE = 1 << 16, 64
 # Each block has so many bytes, but for that of the end of a file, which says nothing here.
 _FRONT, _LEAST = struct.Struct("<IBBB17xQ").unpack_from, AT_HEADER_REST
 _NUMBER = struct.Struct("<H").unpack_from
@@ -76,7 +78,7 @@ class Walk:
         # the last definition of each local message type, where it is of field descriptions
         self._describing: dict[int, Definition] = {}
         # what some definitions say, so that one which comes again isn't looked into again
-        self._known: dict[Any, Optional[Definition]] = {}
+        self._known: dict[Any, Definition] = {}
         self._room = _MOST
 
     def runs(self, blocks: bytes) -> Iterator[Run]:
@@ -120,10 +122,13 @@ class Walk:
         # What comes before the number of the message says nothing of messages but their length, which is that of their
         # fields.
         same = data[AT_DEFINITION_MESSAGE:], tuple(natives.items())
-        if same not in self._known:
-            self._room -= len(data)
-            if self._room < 0:
-                self._known.clear()
-                self._room = _MOST - len(data)
-            self._known[same] = definition_of(data, self._names, natives, self._words)
-        return self._known[same]
+        found = self._known.pop(same, None)
+        if found is None:
+            found = definition_of(data, self._names, natives, self._words)
+            self._room -= len(data) + _MORE
+        # It is the last one that was used. Those before it go first.
+        self._known[same] = found
+        while self._room < 0 and len(self._known) > 1:
+            first = next(iter(self._known))
+            self._room += len(self._known.pop(first).data) + _MORE
+        return found

@@ -8,7 +8,7 @@ from .._names import EXTRA, Names
 from .._numbers import AT_DEFINITION_MESSAGE, AT_DEFINITION_MESSAGE_LENGTH, AT_FILE, AT_PLACE
 from .values import Definition, Developer, told
 
-_MOST, _LONGEST = 128, 2048  # So many are kept, and none whose block is longer.
+_MOST, _LONGEST = 64, 2048  # So many are kept, and none whose block is longer.
 _NUMBER = struct.Struct("<H").unpack_from
 
 

@@ -11,15 +11,19 @@ from .._answers import Answer
 from .._library import Opened, check, exact
 from .._names import EXTRA, Told, names_of
 from .._numbers import STREAM_CHECK, STREAM_MESSAGES, STREAM_SHOW, STREAM_TABLE, STREAM_TO_CSV
-from .._sources import Source, bytes_of, go_back, opened, pieces, place_of
+from .._sources import PIECE, Source, bytes_of, go_back, opened, pieces, place_of
 from ..errors import FitError, StreamBroken, judge, judged
 from .blocks import Only, Walk
-from .events import Events, Everything
+from .events import DefinitionMessage, Events, Everything
 from .messages import Message, messages_of
 
 Made = TypeVar("Made", str, bytes, list[Message])
 
-_SHORT, _FEW, _TOGETHER = 1 << 15, 1 << 12, 1 << 14
+_SHORT, _TOGETHER = 1 << 15, 1 << 14
+_PART = 1 << 13  # What is made of so many bytes is held at once, and is up to 180 times as long.
+# What is kept of short files may take so many bytes: of an event its block and so many more, and of a definition so
+# many times its block.
+_ROOM, _OF_EVENT, _OF_DEFINITION = 1 << 20, 128, 20
 
 _KINDS = {
     "check": STREAM_CHECK,
@@ -209,15 +213,16 @@ def _found(file: Any) -> Answer:
     return checking.answer
 
 
-def each(kind: str, source: Source, partial: bool, ahead: bool = True) -> Iterator[bytes]:
-    """What is made of a source, piece by piece. A fault is raised after what comes before it. Without `partial`, and
-    unless it needn't be known ahead, it is raised at once where the source can go back."""
+def each(kind: str, source: Source, partial: bool, ahead: bool = True, most: int = PIECE) -> Iterator[bytes]:
+    """What is made of a source, of so many bytes at once at most. A fault is raised after what comes before it. Without
+    `partial`, and unless it needn't be known ahead, it is raised at once where the source can go back."""
     making = Opened(_KINDS[kind])
     for piece in checked_pieces(source, partial or not ahead):
-        made = making.finish() if piece is None else making.feed(piece)
-        judged(making.answer, partial=True)
-        yield made
-        judge(making.answer)
+        for at in range(0, 1 if piece is None else len(piece), most):
+            made = making.finish() if piece is None else making.feed(piece[at : at + most])
+            judged(making.answer, partial=True)
+            yield made
+            judge(making.answer)
 
 
 def checked_pieces(source: Source, partial: bool) -> Iterator[Optional[bytes]]:
@@ -304,13 +309,26 @@ def messages(
         if only is not None or ready:
             raise TypeError("everything is all messages as they are, and not only some, or their values")
         events = Events(names_of(names), words)
-        for blocks in each("blocks", source, partial):
+        for blocks in each("blocks", source, partial, most=_PART):
             yield from events.events(blocks)
         return
     walk = Walk(only, names_of(names), words)
-    for blocks in each("blocks", source, partial):
+    for blocks in each("blocks", source, partial, most=_PART):
         found = messages_of(blocks, walk.runs(blocks))
         yield from (message.ready() for message in found) if ready else found
+
+
+def _first(events: Iterator[Everything]) -> Iterator[Everything]:
+    """The first events, for which there is room."""
+    room, definitions = _ROOM, set()
+    for event in events:
+        room -= len(event._block) + _OF_EVENT
+        if type(event) is DefinitionMessage and id(event._definition) not in definitions:
+            definitions.add(id(event._definition))
+            room -= _OF_DEFINITION * len(event._block)
+        yield event
+        if room < 0:
+            return
 
 
 class Files:
@@ -328,11 +346,13 @@ class Files:
         found = messages(self._data, names=EXTRA, everything=True, partial=True)
         if not self._is_short:
             return found
-        begin = list(itertools.islice(found, _FEW))
-        self._is_short = len(begin) < _FEW
-        if self._is_short:
-            self._kept = begin
-        return itertools.chain(begin, found)
+        begin = list(_first(found))
+        rest = next(found, None)
+        if rest is not None:
+            self._is_short = False
+            return itertools.chain(begin, [rest], found)
+        self._kept = begin
+        return iter(begin)
 
     def messages(self, *numbers: int) -> Iterator[Message]:
         """The messages of some numbers."""

@@ -1,4 +1,5 @@
 """What the items of a field stand for, and the field as its definition has it: an entry of docs/BLOCKS.md."""
+import functools
 import struct
 from collections.abc import Mapping
 from typing import Any, NamedTuple, Optional, Union, overload
@@ -34,7 +35,13 @@ _FLOAT = {4: "f", 8: "d"}
 
 def text_at(data: bytes, at: int) -> Optional[str]:
     """The text that begins at a place and ends before a zero; None where it is empty."""
-    return data[at : data.index(0, at)].decode("utf-8", "replace") or None
+    return _text(data[at : data.index(0, at)])
+
+
+@functools.lru_cache(maxsize=1024)
+def _text(data: bytes) -> Optional[str]:
+    """A text, the same one for the same bytes, as many definitions have the same names."""
+    return data.decode("utf-8", "replace") or None
 
 
 NOT_NAMED = Named()
@@ -75,7 +82,7 @@ class Entry:
         is_time = named.type in TYPES and self.kind == UNSIGNED and self.width == 4 and self.count == 1
         self.type = named.type if is_time else None
         self.native = native
-        self._told = data[at : at + self.size], named, native
+        self._told = data, at, named, native
         self.read = reader(self)
 
     def _rename(self, named: Named) -> None:
@@ -88,8 +95,8 @@ class Entry:
             self.decimals = decimals_of(self.scale, self.offset)
 
     def __reduce__(self) -> Any:
-        data, named, native = self._told
-        return Entry, (data, 0, named, native)
+        data, at, named, native = self._told
+        return Entry, (data[at : at + self.size], 0, named, native)
 
     @property
     def key(self) -> Key:

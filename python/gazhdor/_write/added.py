@@ -12,9 +12,10 @@ from .._numbers import (
     BIG_ENDIAN,
 )
 from .._profile import Info
-from .._read.values import Definition, Entry, Key
+from .._read.values import Definition, Entry
 from .definitions import FieldDefinition, Form, Kept, definition_block, empty_message, form_of
-from .field_shapes import DeveloperField, Shape, Shapes
+from .developers import DeveloperField, Developers
+from .field_shapes import Shape, Shapes
 
 if TYPE_CHECKING:
     from .._read.messages import Message
@@ -37,7 +38,8 @@ def _info(entry: Entry) -> Info:
 def added(message: "Message", values: Mapping[Any, Any]) -> "Message":
     """The message with such fields, which it hasn't had, at the end of its own, or of its developer fields."""
     definition = message._definition
-    shapes = Shapes(definition.number, definition.caller_names, _developers(values))
+    developers = Developers(key for key in values if isinstance(key, DeveloperField))
+    shapes = Shapes(definition.number, definition.caller_names, developers)
     new = [(shapes.one(key), value) for key, value in values.items()]
     made = _wider(definition, [(shape, shape.needed(value, shape.least)[1]) for shape, value in new])
     block = empty_message(made, message.local)
@@ -47,10 +49,6 @@ def added(message: "Message", values: Mapping[Any, Any]) -> "Message":
         size = old.count * old.width
         block[entry.begins : entry.begins + size] = message._block[old.begins : old.begins + size]
     return type(message)(bytes(block), made).replace({shape.key: value for shape, value in new})
-
-
-def _developers(values: Mapping[Any, Any]) -> dict[Key, DeveloperField]:
-    return {key.key: key for key in values if isinstance(key, DeveloperField)}
 
 
 def _places(definition: Definition, new: "list[tuple[Shape, Any]]") -> list[int]:
@@ -78,4 +76,4 @@ def _wider(definition: Definition, new: "list[tuple[Shape, int]]") -> Definition
     return made
 
 
-_MOST = 64  # So many wider definitions are kept with each one.
+_MOST = 16  # So many wider definitions are kept with each one.

@@ -4,7 +4,7 @@ from typing import Optional
 
 from .._base_types import BYTE
 from .._read.values import Definition, Entry, label
-from .field_shapes import DeveloperField
+from .developers import DeveloperField
 
 _MOST = 254  # the bytes that a name or a unit may have in a description
 

@@ -25,6 +25,7 @@ from ..errors import WrongValue
 _RECORD = 20
 _DISTANCE, _CYCLES, _POWER = 5, 19, 29
 _MOST, _FIELDS = 1 << 64, 255
+_LONG = 1 << 11  # Of definitions that are longer only a few are kept.
 
 
 class _Counter(NamedTuple):
@@ -57,11 +58,14 @@ def _number(bytes: Any, at: int, size: int) -> int:
     return int.from_bytes(bytes[at : at + size], "little")
 
 
-@functools.lru_cache(maxsize=256)
 def counters(definition: bytes) -> Counters:
     """The counters that the messages of a definition have, and where their items begin in blocks."""
     if _number(definition, AT_DEFINITION_MESSAGE, 2) != _RECORD:
         return ()
+    return _of_long(definition) if len(definition) > _LONG else _of_short(definition)
+
+
+def _counters(definition: bytes) -> Counters:
     found: dict[int, tuple[tuple[int, int], int]] = {}
     at = definition.index(0, AT_DEFINITION_NAME) // 8 * 8 + 8
     while at < len(definition):
@@ -70,6 +74,9 @@ def counters(definition: bytes) -> Counters:
             found.setdefault(definition[at + AT_ENTRY_NUMBER], (shape, _number(definition, at + AT_ENTRY_ITEMS, 4)))
         at += _number(definition, at, 2)
     return tuple((of, found[of.field][1]) for of in _COUNTERS if found.get(of.field, ((), 0))[0] == of.shape)
+
+
+_of_short, _of_long = (functools.lru_cache(maxsize=most)(_counters) for most in (128, 8))
 
 
 def _next(sums: dict[int, int], counter: _Counter, block: Any, begins: int) -> Optional[int]:

@@ -9,22 +9,8 @@ from .._numbers import BYTES, STRING
 from .._profile import Info, Kind, UnknownName, fields_of, info_of, name_of, number_of, profile
 from .._read.values import Key, label
 from .definitions import FieldDefinition, Form, form_of
+from .developers import DeveloperField, Developers
 from .items import several, text_bytes
-
-
-class DeveloperField(NamedTuple):
-    """A developer field that a file describes, of `Writer.describe`: it names the field in `define`, and where a
-    message is written."""
-
-    developer: int
-    number: int
-    name: str
-    unit: str
-    base: int
-
-    @property
-    def key(self) -> tuple[int, int]:
-        return self.developer, self.number
 
 
 Spec = Union[Key, DeveloperField, FieldDefinition, tuple[Any, Any], tuple[Any, Any, int]]
@@ -97,9 +83,9 @@ def _usual(message: int, number: int, names: Optional[Names]) -> Optional[Base]:
 
 class Shapes:
     """Makes the fields of a message of what a caller says. `developers` are the developer fields that the file
-    describes, by their keys."""
+    describes."""
 
-    def __init__(self, message: int, names: Optional[Names], developers: dict[Key, DeveloperField]) -> None:
+    def __init__(self, message: int, names: Optional[Names], developers: Developers) -> None:
         self._message, self._names, self._developers = message, names, developers
 
     def all(self, told: Union[str, Iterable[Spec]]) -> list[Shape]:
@@ -143,27 +129,23 @@ class Shapes:
         profile."""
         found: Optional[DeveloperField] = key if isinstance(key, DeveloperField) else None
         if found is None and isinstance(key, (str, tuple)):
-            found = self._developers.get(key)  # type: ignore[arg-type]
+            found = self._developers.get(key)
         if found is None or isinstance(key, str) and key in field_numbers(self._message, self._names):
             if isinstance(key, tuple):
-                raise UnknownName("the file describes no developer field", f"{key!r:.40}", self._described())
+                raise UnknownName("the file describes no developer field", f"{key!r:.40}", self._developers.names())
             return None
         if told is not None and base_named(told).code != found.base:
             raise ValueError(f"{found.name!r} is described as {base_of(found.base).name}")
         info = Info(found.name, found.unit, 1, 0, "")
         return Shape(found.key, base_of(found.base), None, found.number, found.developer, info)
 
-    def _described(self) -> list[str]:
-        return [name for name in self._developers if isinstance(name, str)]
-
     def _field(self, key: Any, told: Any) -> Shape:
         if isinstance(key, str):
             known = field_numbers(self._message, self._names)
             if key not in known:
                 of = name_of(self._message) or f"message {self._message}"
-                raise UnknownName(
-                    f"neither the profile nor the file has in {of} a field", key, [*known, *self._described()]
-                )
+                others = [*known, *self._developers.names()]
+                raise UnknownName(f"neither the profile nor the file has in {of} a field", key, others)
             number = known[key]
         else:
             number = byte("a field", key)
@@ -176,7 +158,7 @@ class Shapes:
 @functools.lru_cache(maxsize=256)
 def _named(message: int, names: Optional[Names], fields: tuple[str, ...]) -> list[Shape]:
     """The shapes of fields of the profile, or of the caller's, that are named."""
-    return Shapes(message, names, {})._all([*fields])
+    return Shapes(message, names, Developers())._all([*fields])
 
 
 def _is_numbers(spec: tuple[Any, ...]) -> bool:

@@ -11,7 +11,8 @@ from .._read.values import Definition as Known
 from .._times import HEADER_TIME, NO_TIME_BYTES
 from ..errors import WrongValue
 from .definitions import Kept, definition_block, empty_message
-from .field_shapes import DeveloperField, Shape
+from .developers import DeveloperField
+from .field_shapes import Shape
 from .item_columns import is_of_numbers, listed, put_column
 from .items import Packer, packers
 from .put import LOST, Blocks

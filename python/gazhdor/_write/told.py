@@ -9,8 +9,8 @@ from .._read.messages import Message
 
 # What adds up where rides are put together.
 ADDED = ("total_calories", "total_ascent", "total_descent", "total_cycles")
-# What stands for a row that has no such field, and for one that has no value.
-_MISSING, _EMPTY = -(1 << 63), 1 - (1 << 63)
+# What a row has: no such field, no value, a whole number, or one less than zero.
+_MISSING, _EMPTY, _WHOLE, _MINUS = range(4)
 
 
 def number_of(message: Message, name: str, other: Optional[float] = None) -> Optional[float]:
@@ -40,27 +40,31 @@ def _said(sport: Any, sub_sport: Any) -> dict[str, Any]:
 
 
 class _Column:
-    """A value of each row. A whole number takes eight bytes, and what no row says takes none."""
+    """A value of each row. A whole number of 32 bits takes five bytes, and what no row says takes none."""
 
     def __init__(self) -> None:
-        self._items = array("q")
+        self._kinds, self._items = bytearray(), array("I")
         self._others: dict[int, Any] = {}
 
     def put(self, row: int, value: Any) -> None:
         """Puts the value of a row after those that are there."""
-        item = _EMPTY if value is None else value
-        if type(item) is not int or not _EMPTY <= item < 1 << 63:
+        item = 0 if value is None else value
+        if type(item) is not int or not abs(item) < 1 << 32:
             self._others[row] = value
             return
-        self._items.extend(array("q", [_MISSING]) * (row - len(self._items)))
-        self._items.append(item)
+        self._kinds.extend(bytes(row - len(self._kinds)))
+        self._items.extend(array("I", bytes(4)) * (row - len(self._items)))
+        self._kinds.append(_EMPTY if value is None else _MINUS if item < 0 else _WHOLE)
+        self._items.append(abs(item))
 
     def get(self, row: int, missing: Any = None) -> Any:
         """The value of a row; None where it has none, and another one where it has no such field."""
         if row in self._others:
             return self._others[row]
-        item = self._items[row] if row < len(self._items) else _MISSING
-        return missing if item == _MISSING else None if item == _EMPTY else item
+        kind = self._kinds[row] if row < len(self._kinds) else _MISSING
+        if kind < _WHOLE:
+            return missing if kind == _MISSING else None
+        return -self._items[row] if kind == _MINUS else self._items[row]
 
 
 class Told:

@@ -14,9 +14,10 @@ from .._read.values import Definition as Known
 from .._times import OWN_TIME
 from ..errors import BlocksRefused, judge
 from .definitions import KINDS, Kept, block_for, header_block
+from .developers import DeveloperField, Developers
 from .describing import described, not_described
 from .distances import kept
-from .field_shapes import DeveloperField, Shapes, Spec, byte, message_number
+from .field_shapes import Shapes, Spec, byte, message_number
 from .message_writer import Definition
 from .put import Blocks, Chain
 from .sinks import Sink, sink_of, write
@@ -60,7 +61,7 @@ class Writer:
         self._chain: Optional[Chain] = None
         self._is_finished = False
         # what the current file describes, and what `write` has made for it
-        self._developers: dict[Any, DeveloperField] = {}
+        self._developers = Developers()
         self._indices: set[Optional[int]] = set()
         # the developer fields of the last messages that have some
         self._own: tuple[DeveloperField, ...] = ()
@@ -138,8 +139,7 @@ class Writer:
         with the first field of an index."""
         if application is not None and (not isinstance(application, (bytes, bytearray)) or len(application) != 16):
             raise ValueError("an application is named by 16 bytes")
-        known = [of.number for of in self._developers.values() if of.developer == index]
-        field = max(known, default=-1) + 1 if number is None else number
+        field = max(self._developers.numbers(index), default=-1) + 1 if number is None else number
         told: dict[Any, Any] = {
             "developer_data_index": index,
             "field_definition_number": field,
@@ -158,7 +158,9 @@ class Writer:
             own = {"application_id": bytes(application)} if application else {}
             self.write(DEVELOPER_DATA, {"developer_data_index": index, **own})
         definition.write(told)
-        return self._developers[index, field]
+        described = self._developers.get((index, field))
+        assert described is not None
+        return described
 
     def copy(self, event: Everything) -> None:
         """Writes what `messages` gives: a message, as it is or with other values (`replace`), and, with `everything`,
@@ -225,7 +227,7 @@ class Writer:
         self._kinds, self._indices, self._own = {}, set(), ()
         chain.begin(header)
         self._chain = chain
-        self._developers = {}
+        self._developers = Developers()
 
     def _begun(self) -> Chain:
         """The files; where there is none, one with the usual header, which is this writer's with its first message."""
@@ -266,9 +268,8 @@ class Writer:
         """Takes in the developer fields of messages that were put, which were described with these if they weren't. What
         was named before keeps its name."""
         for of in own:
-            if self._developers.setdefault(of.key, of) is of:
+            if self._developers.learn_own(of):
                 self._indices.add(of.developer)
-            self._developers.setdefault(of.name, of)
         self._own = own
 
     def _learn(self, known: Known, blocks: Blocks) -> None:
@@ -279,8 +280,7 @@ class Writer:
             if index is not None and number is not None and base is not None:
                 told = Message(block, known)
                 name, unit = (str(told.get(key) or "") for key in (3, 8))
-                of = DeveloperField(index, number, name, unit, base)
-                self._developers[index, number] = self._developers[name] = of
+                self._developers.learn(DeveloperField(index, number, name, unit, base))
 
 
 class Copies(Writer):
