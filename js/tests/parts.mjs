@@ -225,6 +225,7 @@ function seeRecordedSums(data, both, parts) {
     assert.deepEqual([session.get("total_calories") ?? null], calories.length > 0 ? calories : [null])
     const begins = [0, ...parts.slice(1).map(({ begin }) => records.findIndex(({ seconds }) => seconds >= begin))]
     const distance = begins.reduce((sum, begin, k) => sum + metres(records.slice(begin, begins[k + 1])), 0)
+    assert.equal((session.get("total_distance") ?? null) === null, records.every(record => record.distance === null))
     near(session.get("total_distance") ?? 0, distance, "the distance of all")
 }
 

@@ -248,6 +248,7 @@ class Recording(unittest.TestCase):
         self.assertEqual((sum(lap["total_timer_time"] for lap in laps), session["num_laps"]), (timer - lost, len(laps)))
         self.assertEqual([session.get("total_calories")], [m.get("total_calories") for m in wholes] or [None], name)
         distance = sum(metres(records[first:last]) for first, last in zip([0, *gaps], [*gaps, len(records)]))
+        self.assertEqual(session.get("total_distance") is None, all(m.distance is None for m in records), name)
         self.assertAlmostEqual(session.get("total_distance") or 0, distance, 6, name)
 
 

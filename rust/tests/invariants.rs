@@ -195,8 +195,10 @@ impl Case {
             metres_in += metres(part);
             left = rest;
         }
-        let told = session.value("total_distance").unwrap_or(0.0);
-        self.see("the distance", near(told, metres_in + metres(left)));
+        let told = session.value("total_distance");
+        let has_distance = records.iter().any(|record| record.distance().is_some());
+        self.see("whether there is a distance", told.is_some() == has_distance);
+        self.see("the distance", near(told.unwrap_or(0.0), metres_in + metres(left)));
     }
 
     /// What is so of the parts of a recording that is no activity of the tests.
