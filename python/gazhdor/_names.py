@@ -95,6 +95,8 @@ class Names:
             for key, value in told.items():
                 self._take(key, value)
         elif told is not None:
+            if not isinstance(told, (str, os.PathLike)):
+                raise TypeError(f"names are a dict, the path of a text or Names, and not {type(told).__name__}")
             with open(told, encoding="utf-8-sig", newline="") as file:
                 self._read(file.read())
 
@@ -108,6 +110,10 @@ class Names:
 
     def _take(self, key: Any, value: Any) -> None:
         if isinstance(key, tuple):
+            if len(key) != 2:
+                raise ValueError(f"a field is named by (message, field), and not by {len(key)} items")
+            if not isinstance(value, (str, tuple, list)) or len(value) > len(Named._fields) and value[:0] != "":
+                raise ValueError("what is said of a field is its name, or (name, unit, scale, offset, type, base)")
             message, field = key
             named = Named(value) if isinstance(value, str) else Named(*value)
             self._fields.setdefault(self._message(message), {})[_number("a field", 0, 255, field)] = _see_named(named)

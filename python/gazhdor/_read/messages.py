@@ -161,7 +161,9 @@ class Message(Mapping[Key, Any]):
         if isinstance(key, str) and not self._is_known(key):
             return self._missing(key)
         of = self.name or f"message {self.number}"
-        return UnknownName(f"this {of} hasn't the field", label(key) if key else "", (), ": adding(..) gives it one")
+        is_key = isinstance(key, (str, int)) or isinstance(key, tuple) and len(key) == 2
+        named = label(key) if is_key else f"{key!r:.40}"
+        return UnknownName(f"this {of} hasn't the field", named, (), ": adding(..) gives it one")
 
     def emptied(self, wanted: "Callable[[Field], bool]") -> "Message":
         """Returns the message with no value in each field for which `wanted` says so, which it is asked of every

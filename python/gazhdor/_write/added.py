@@ -14,7 +14,7 @@ from .._numbers import (
 from .._profile import Info
 from .._read.values import Definition, Entry
 from .definitions import FieldDefinition, Form, Kept, definition_block, empty_message, form_of
-from .developers import DeveloperField, Developers
+from .developers import DeveloperField, Developers, seen
 from .field_shapes import Shape, Shapes
 
 if TYPE_CHECKING:
@@ -38,7 +38,7 @@ def _info(entry: Entry) -> Info:
 def added(message: "Message", values: Mapping[Any, Any]) -> "Message":
     """The message with such fields, which it hasn't had, at the end of its own, or of its developer fields."""
     definition = message._definition
-    developers = Developers(key for key in values if isinstance(key, DeveloperField))
+    developers = Developers(seen(key) for key in values if isinstance(key, DeveloperField))
     shapes = Shapes(definition.number, definition.caller_names, developers)
     new = [(shapes.one(key), value) for key, value in values.items()]
     made = _wider(definition, [(shape, shape.needed(value, shape.least)[1]) for shape, value in new])

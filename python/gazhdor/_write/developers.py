@@ -1,4 +1,6 @@
 """The developer fields that a file describes, by their numbers and their names."""
+import numbers
+import operator
 from array import array
 from collections.abc import Iterable, Iterator
 from typing import Any, NamedTuple, Optional
@@ -22,6 +24,26 @@ class DeveloperField(NamedTuple):
     @property
     def key(self) -> tuple[int, int]:
         return self.developer, self.number
+
+
+def byte(what: str, told: Any) -> int:
+    if isinstance(told, bool) or not isinstance(told, numbers.Integral):
+        raise TypeError(f"{what} is a number, and not {type(told).__name__}")
+    number = operator.index(told)
+    if not 0 <= number <= 255:
+        raise ValueError(f"{what} is 0 to 255, and not {number if number.bit_length() < 65 else 'so much'}")
+    return number
+
+
+def seen(field: DeveloperField) -> DeveloperField:
+    """The same, if a file can have it."""
+    byte("a developer data index", field.developer)
+    byte("a field", field.number)
+    byte("a base type", field.base)
+    for text in (field.name, field.unit):
+        if not isinstance(text, str):
+            raise TypeError(f"a developer field has texts as name and unit, and not {type(text).__name__}")
+    return field
 
 
 class _Kept:

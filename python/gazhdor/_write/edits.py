@@ -261,6 +261,9 @@ def edit(
     the time. It raises ValueError where no record has a time in the span, and UnknownName for a field that nothing
     names."""
     words = (drop,) if isinstance(drop, str) else tuple(drop)
+    for word in words:
+        if not isinstance(word, str):
+            raise TypeError(f"a field that is emptied is named by a text, and not by {type(word).__name__}")
     seconds = shift // datetime.timedelta(0, 1) if isinstance(shift, datetime.timedelta) else shift
     return change(source, sink, Change(words, seconds, _second(begin), _second(end)))
 

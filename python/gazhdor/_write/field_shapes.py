@@ -9,7 +9,7 @@ from .._numbers import BYTES, STRING
 from .._profile import Info, Kind, UnknownName, fields_of, info_of, name_of, number_of, profile
 from .._read.values import Key, label
 from .definitions import FieldDefinition, Form, form_of
-from .developers import DeveloperField, Developers
+from .developers import DeveloperField, Developers, byte, seen
 from .items import several, text_bytes
 
 
@@ -109,11 +109,16 @@ class Shapes:
     def one(self, spec: Spec) -> Shape:
         if isinstance(spec, FieldDefinition):
             size, number = byte("a size", spec.size), byte("a field", spec.number)
-            return Shape(spec.key, base_of(spec.base), size, number, spec.developer, self._info(spec.key))
+            if spec.developer is not None:
+                byte("a developer data index", spec.developer)
+            base = base_of(byte("a base type", spec.base))
+            return Shape(spec.key, base, size, number, spec.developer, self._info(spec.key))
         key: Any = spec
         told: Any = None
         count: Any = None
         if isinstance(spec, tuple) and not isinstance(spec, DeveloperField) and not _is_numbers(spec):
+            if len(spec) not in (2, 3):
+                raise ValueError(f"a field is (name, base type) or (name, base type, count), and not {len(spec)} items")
             key, told, count = (*spec, None)[:3]
         shape = self._developer(key, told) or self._field(key, told)
         if count is None:
@@ -127,7 +132,7 @@ class Shapes:
     def _developer(self, key: Any, told: Any) -> Optional[Shape]:
         """A developer field that is named by itself, by its numbers or by its name, where that isn't one of the
         profile."""
-        found: Optional[DeveloperField] = key if isinstance(key, DeveloperField) else None
+        found: Optional[DeveloperField] = seen(key) if isinstance(key, DeveloperField) else None
         if found is None and isinstance(key, (str, tuple)):
             found = self._developers.get(key)
         if found is None or isinstance(key, str) and key in field_numbers(self._message, self._names):
@@ -164,11 +169,3 @@ def _named(message: int, names: Optional[Names], fields: tuple[str, ...]) -> lis
 def _is_numbers(spec: tuple[Any, ...]) -> bool:
     """Whether a tuple is the key of a developer field."""
     return len(spec) == 2 and all(isinstance(part, int) for part in spec)
-
-
-def byte(what: str, told: Any) -> int:
-    if isinstance(told, bool) or not isinstance(told, int):
-        raise TypeError(f"{what} is a number, and not {type(told).__name__}")
-    if not 0 <= told <= 255:
-        raise ValueError(f"{what} is 0 to 255, and not {told if told.bit_length() < 65 else 'so much'}")
-    return told

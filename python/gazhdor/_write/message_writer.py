@@ -11,7 +11,7 @@ from .._read.values import Definition as Known
 from .._times import HEADER_TIME, NO_TIME_BYTES
 from ..errors import WrongValue
 from .definitions import Kept, definition_block, empty_message
-from .developers import DeveloperField
+from .developers import DeveloperField, seen
 from .field_shapes import Shape
 from .item_columns import is_of_numbers, listed, put_column
 from .items import Packer, packers
@@ -45,7 +45,7 @@ class Layout:
         found = self._packers.get(key.key if isinstance(key, DeveloperField) else key)
         if found is not None:
             return found
-        name = key if isinstance(key, str) else key.name if isinstance(key, DeveloperField) else f"{key!r:.40}"
+        name = key if isinstance(key, str) else seen(key).name if isinstance(key, DeveloperField) else f"{key!r:.40}"
         raise UnknownName("the definition has no field", name, self.known.labels)
 
     def place(self, key: Any) -> int:

@@ -14,10 +14,10 @@ from .._read.values import Definition as Known
 from .._times import OWN_TIME
 from ..errors import BlocksRefused, judge
 from .definitions import KINDS, Kept, block_for, header_block
-from .developers import DeveloperField, Developers
+from .developers import DeveloperField, Developers, byte
 from .describing import described, not_described
 from .distances import kept
-from .field_shapes import Shapes, Spec, byte, message_number
+from .field_shapes import Shapes, Spec, message_number
 from .message_writer import Definition
 from .put import Blocks, Chain
 from .sinks import Sink, sink_of, write
@@ -139,7 +139,9 @@ class Writer:
         with the first field of an index."""
         if application is not None and (not isinstance(application, (bytes, bytearray)) or len(application) != 16):
             raise ValueError("an application is named by 16 bytes")
-        field = max(self._developers.numbers(index), default=-1) + 1 if number is None else number
+        index = byte("a developer data index", index)
+        free = max(self._developers.numbers(index), default=-1) + 1
+        field = byte("the number of a developer field", free if number is None else number)
         told: dict[Any, Any] = {
             "developer_data_index": index,
             "field_definition_number": field,
