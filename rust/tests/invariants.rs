@@ -17,8 +17,9 @@ const RIDE: &[u8] = include_bytes!(concat!(env!("GAZHDOR_RIDES"), "/ride.fit"));
 const PLACES: usize = 20;
 /// What may be written anew of a record: its time, and what is accumulated.
 const ANEW: [u8; 4] = [253, 5, 19, 29];
-/// file_id, and what describes developer fields.
+/// What stays in each part: file_id, and what describes developer fields.
 const STAYS: [u16; 3] = [0, 206, 207];
+const FILE_ID: [u16; 1] = [0];
 /// The known file whose parts can't be joined, and why: it has a developer field before the field is described. In the first part that is a field
 /// of which nothing is known, and it stays one; in the next one it would come after the description of the first, and be read by it.
 const NOT_JOINED: (&str, &str) =
@@ -130,11 +131,11 @@ impl Case {
         self.events().iter().rev().find(|event| event.0 < end).map_or(true, |event| event.1)
     }
 
-    /// Nothing is in a part of outside its span, and records and beats of all are those of the whole.
-    fn see_messages(&self) {
+    /// Nothing is in a part of outside its span but messages that stay in each, and records and beats of all are those of the whole.
+    fn see_messages(&self, stays: &[u16]) {
         for ((begin, end), part) in &self.parts {
             let is_in = |time: i64| begin.map_or(true, |begin| time >= begin) && end.map_or(true, |end| time <= end);
-            let has_time = |message: &Message<'_>| !STAYS.contains(&message.number()) && message.time().is_some();
+            let has_time = |message: &Message<'_>| !stays.contains(&message.number()) && message.time().is_some();
             let times = part.messages.iter().filter(has_time);
             self.see("what is in a part is of its time", times.map(|message| seconds(&message)).all(is_in));
         }
@@ -202,8 +203,8 @@ impl Case {
     }
 
     /// What is so of the parts of a recording that is no activity of the tests.
-    fn see_recording(&self) {
-        self.see_messages();
+    fn see_recording(&self, stays: &[u16]) {
+        self.see_messages(stays);
         let agrees = self.whole.ran_in("lap") == self.whole.ran_in("session"); // Some end after their last lap.
         for (_, part) in self.parts.iter().filter(|_| self.parts.len() > 1) {
             self.see_recorded(part);
@@ -326,7 +327,7 @@ fn activities() {
     for (seed, (name, file)) in (0..).zip(files("GAZHDOR_ACTIVITIES")) {
         let case = Case::of(&name, &file, seed).unwrap();
         case.see("its parts", case.parts.len() == PLACES + 1);
-        case.see_messages();
+        case.see_messages(&FILE_ID);
         case.see_numbers();
         case.see_sums();
         case.parts.iter().for_each(|((begin, _), part)| case.see_part(*begin, part));
@@ -338,7 +339,7 @@ fn activities() {
 fn recordings() {
     let ride = ("ride".to_string(), RIDE.to_vec());
     for (seed, (name, file)) in (0..).zip([ride].into_iter().chain(files("GAZHDOR_RECORDINGS"))) {
-        Case::of(&name, &file, seed).unwrap().see_recording();
+        Case::of(&name, &file, seed).unwrap().see_recording(&FILE_ID);
     }
 }
 
@@ -347,7 +348,7 @@ fn known() {
     let (files, mut refused) = (files("GAZHDOR_KNOWN"), Vec::new());
     for (seed, (name, file)) in (0..).zip(&files) {
         match Case::of(name, file, seed) {
-            Ok(case) => case.see_recording(),
+            Ok(case) => case.see_recording(&STAYS),
             Err(fault) => refused.push((name.as_str(), fault.to_string())),
         }
     }
